@@ -1,0 +1,10 @@
+-- readings that gave something
+mod Choices
+-- chains of overflow pages, and rows
+mod ChainReads
+-- pages, and trees of them
+mod TreeReads
+-- trees that the pages hold
+mod StoredReads
+-- the laws
+mod Tables

@@ -1,0 +1,249 @@
+-- What is read of pages and of trees.
+use Rattle.std.proofs.Common.{◌≡◌, inl, inr, ℕ, zero, suc, ◌-◌, ◌*◌, ◌<◌, ◌≤◌, Bool, true, false, cond, List, [], ◌∷◌, ◌++◌, length, map, drop, Some, None, Result, Ok, Err, refl, sym, ap, ap₂, subst, subst₂, ◌∙◌, arith, append_assoc, append-nil, eq-eqb, ne_eqb, length-drop, length-take-le, suc-mul}
+use Rattle.std.proofs.lemmas.Bool.{cond-true, cond-false}
+use Rattle.std.proofs.lemmas.Bool.Decides.{Decides-and}
+use Rattle.std.proofs.lemmas.List.{map-append}
+use Rattle.std.specs.Prelude.{nat_le, slice_index, ◌&&◌}
+use Rattle.sqlite_pages.specs.PageMap.{PageMap}
+use Rattle.sqlite_format.specs.declared.kind.Tree.TheVariants.{Table}
+use Rattle.sqlite_format.specs.Cell.{cell_body, cell_child}
+use Rattle.sqlite_format.specs.Page.{IsPage, page_cells, right_child}
+use Rattle.sqlite_btree.specs.Cut.{Each}
+use Rattle.sqlite_btree.specs.Part.{Part, all_pages}
+use Rattle.sqlite_btree.specs.Items.{Item, item, cell_item, rows_of}
+use Rattle.sqlite_btree.specs.Tree.{header_of, IsNode, cells_of, right_of, EachChild, fan_items}
+use Rattle.sqlite_btree.specs.Chain.{entry_of}
+use Rattle.sqlite_btree.specs.Stored.{unordered, as_row}
+use Rattle.sqlite_btree.proofs.CutLemmas.{Each-append, rows_of-append}
+use Rattle.svn_wcdb.specs.declared.fault.Reason.{Reason}
+use Rattle.svn_wcdb.specs.declared.fault.Reason.TheVariants.{BadPage}
+use Rattle.svn_wcdb.specs.Images.{File, page_in}
+use Rattle.svn_wcdb.specs.Pages as reader
+use Rattle.svn_wcdb.specs.Reading.{◌>>=◌, each}
+use Rattle.svn_wcdb.specs.Tables.{Rows, take_page, row_after, tree_after}
+use Rattle.svn_wcdb.proofs.PageTests.{Decides-leb, tells_pages}
+use Rattle.law_wcdb.specs.Laws.{shown, rows_among}
+use Rattle.law_wcdb.specs.Trees.{IsTreeWithin, items_within, IsWholeItem}
+use Rattle.law_wcdb.proofs.Choices.{ok_same, err_ok, chosen, bound_ok, given_ok}
+use Rattle.law_wcdb.proofs.ChainReads.{AreSized, page_there, row_read}
+
+-- ---- the pages of a file
+
+some_same : (x y : List ℕ) → Some x ≡ Some y → x ≡ y
+some_same x y h = cc
+
+none_some : (x : List ℕ) → None ≡ Some x → ⊥
+none_some x h = cc
+
+room : (n size len : ℕ) → 1 ≤ n → n * size ≤ len → size ≤ len - (n - 1) * size
+room zero size len some within = absurd (omega (arith, some))
+room (suc n) size len some within =
+    let less : suc n - 1 ≡ n = omega arith in
+    subst (λ k. size ≤ len - k * size) (sym less) (omega (arith, within, suc-mul n size))
+
+pub pages_sized : (file : File) → file.usable ≤ file.size → AreSized (page_in file) file.usable
+pages_sized file fits n page there =
+    elim (chosen (nat_le 1 n && nat_le (n * file.size) (length file.bytes)) _ _ _ there) [
+      | inl inside ↦
+          let within = (Decides-and _ _ (Decides-leb 1 n) (Decides-leb (n * file.size) (length file.bytes))).0 inside.0 in
+          let rest = drop ((n - 1) * file.size) file.bytes in
+          ap length (sym (some_same _ _ inside.1))
+          ∙ length-take-le file.usable rest (omega (arith, fits, length-drop ((n - 1) * file.size) file.bytes, room n file.size (length file.bytes) within.0 within.1))
+      | inr outside ↦ absurd (none_some page outside.1)
+    ]
+
+-- ---- rows that are read after others
+
+pub record Adds (pages : Part) (usable : ℕ) (items : List Item) (old new : Rows) : Type 0 where
+  pub whole : Each (IsWholeItem pages usable) items
+  pub rows : shown new ≡ shown old ++ rows_among pages usable items
+
+rows_among-append : (pages : Part) (usable : ℕ) (xs ys : List Item)
+    → rows_among pages usable (xs ++ ys) ≡ rows_among pages usable xs ++ rows_among pages usable ys
+rows_among-append pages usable xs ys =
+    ap (λ l. map as_row (map (entry_of Table usable pages) l)) (rows_of-append xs ys)
+    ∙ ap (map as_row) (map-append (entry_of Table usable pages) (rows_of xs) (rows_of ys))
+    ∙ map-append as_row (map (entry_of Table usable pages) (rows_of xs)) (map (entry_of Table usable pages) (rows_of ys))
+
+adds_none : (pages : Part) (usable : ℕ) (old new : Rows) → old ≡ new → Adds pages usable [] old new
+adds_none pages usable old new same = record { whole = tt; rows = ap shown (sym same) ∙ sym (append-nil (shown old)) }
+
+adds_both : (pages : Part) (usable : ℕ) (xs ys : List Item) (old mid new : Rows) → Adds pages usable xs old mid → Adds pages usable ys mid new
+    → Adds pages usable (xs ++ ys) old new
+adds_both pages usable xs ys old mid new first second =
+    record {
+      whole = Each-append (IsWholeItem pages usable) xs ys first.whole second.whole;
+      rows = second.rows ∙ ap (λ l. l ++ rows_among pages usable ys) first.rows
+          ∙ append_assoc (shown old) (rows_among pages usable xs) (rows_among pages usable ys)
+          ∙ ap (λ l. shown old ++ l) (sym (rows_among-append pages usable xs ys));
+    }
+
+-- a divider is no row
+adds_divider : (pages : Part) (usable : ℕ) (body : List ℕ) (xs : List Item) (old new : Rows) → Adds pages usable xs old new
+    → Adds pages usable (item false body ∷ xs) old new
+adds_divider pages usable body xs old new adds = record { whole = (λ e. cc, adds.whole); rows = adds.rows }
+
+-- ---- a leaf
+
+leaf_read : (pages : PageMap) (usable : ℕ) → 4 < usable → AreSized pages usable → (cells : List (List ℕ)) (old new : Rows)
+    → each (row_after pages usable) (map (cell_body (reader.kind_of true) usable) cells) old ≡ Ok new
+    → Adds (all_pages pages) usable (map (cell_item (unordered Table usable) true) cells) old new
+leaf_read pages usable size sized [] old new read = adds_none (all_pages pages) usable old new (ok_same read)
+leaf_read pages usable size sized (cell ∷ cells) old new read =
+    let found = bound_ok _ _ _ read in
+    let x = cell_item (unordered Table usable) true cell in
+    let row = row_read pages usable (cell_body (reader.kind_of true) usable cell) old found.0 size sized found.1 in
+    adds_both (all_pages pages) usable (x ∷ []) (map (cell_item (unordered Table usable) true) cells) old found.0 new
+    (record { whole = (λ _. row.whole, tt); rows = row.rows })
+    (leaf_read pages usable size sized cells found.0 new found.2)
+
+-- ---- the pages below an interior page
+
+fan_read : (pages : Part) (usable : ℕ) (IsSub : ℕ → Type 0) (items : ℕ → List Item) (step : ℕ → Rows → Result Rows Reason)
+    → ((n : ℕ) (old new : Rows) → step n old ≡ Ok new → IsSub n × Adds pages usable (items n) old new)
+    → (cells : List (List ℕ)) (last : ℕ) (old new : Rows) → each step (map cell_child cells ++ last ∷ []) old ≡ Ok new
+    → EachChild IsSub cells last × Adds pages usable (fan_items (unordered Table usable) items cells last) old new
+fan_read pages usable IsSub items step reads [] last old new read =
+    let found = bound_ok _ _ _ read in
+    reads last old new (found.1 ∙ found.2)
+fan_read pages usable IsSub items step reads (cell ∷ cells) last old new read =
+    let found = bound_ok _ _ _ read in
+    let first = reads (cell_child cell) old found.0 found.1 in
+    let rest = fan_read pages usable IsSub items step reads cells last found.0 new found.2 in
+    let more = fan_items (unordered Table usable) items cells last in (
+      (first.0, rest.0),
+      adds_both pages usable (items (cell_child cell)) (cell_item (unordered Table usable) false cell ∷ more) old found.0 new first.1
+          (adds_divider pages usable _ more found.0 new rest.1),
+    )
+
+-- ---- one page
+
+same_header : (n : ℕ) → reader.header_of n ≡ header_of n
+unfolding header_of
+same_header n = refl
+
+abbrev page_as : Bool → List ℕ → reader.TablePage
+page_as leaf bytes = record { leaf = leaf; bytes = bytes }
+
+abbrev is_kind : ℕ → List ℕ → Bool → Bool
+is_kind n bytes leaf = reader.is_page (reader.kind_of leaf) bytes (reader.header_of n)
+
+record PageKnown (n : ℕ) (bytes : List ℕ) (page : reader.TablePage) : Type 0 where
+  same : page.bytes ≡ bytes
+  sound : IsPage (reader.kind_of page.leaf) bytes (reader.header_of n)
+
+page_known : (n : ℕ) (bytes : List ℕ) (page : reader.TablePage) → reader.page_of_table n bytes ≡ Ok page → PageKnown n bytes page
+unfolding reader.page_of_table
+page_known n bytes page read =
+    let known : (leaf : Bool) → is_kind n bytes leaf ≡ true → page_as leaf bytes ≡ page → PageKnown n bytes page =
+    λ leaf test is. subst (PageKnown n bytes) is (record { same = refl; sound = (tells_pages (reader.kind_of leaf) bytes (reader.header_of n)).0 test }) in
+    let interior_or_none = cond (is_kind n bytes false) (Ok (page_as false bytes)) (Err (BadPage n)) in
+    elim (chosen (is_kind n bytes true) (Ok (page_as true bytes)) interior_or_none (Ok page) read) [
+      | inl leaf ↦ known true leaf.0 (ok_same leaf.1)
+      | inr other ↦
+          elim (chosen (is_kind n bytes false) (Ok (page_as false bytes)) (Err (BadPage n)) (Ok page) other.1) [
+            | inl interior ↦ known false interior.0 (ok_same interior.1)
+            | inr none ↦ absurd (err_ok none.1)
+          ]
+    ]
+
+record NodeKnown (pages : PageMap) (usable n : ℕ) (page : reader.TablePage) : Type 0 where
+  node : IsNode (unordered Table usable) page.leaf (all_pages pages) n
+  same : page.bytes ≡ all_pages pages n
+
+node_known : (pages : PageMap) (usable n : ℕ) (page : reader.TablePage) → AreSized pages usable → reader.table_page pages n ≡ Ok page → NodeKnown pages usable n page
+unfolding reader.table_page
+node_known pages usable n page sized read =
+    let found = bound_ok _ _ _ read in
+    let there = page_there pages n found.0 (given_ok _ _ _ found.1) in
+    let known = page_known n found.0 page found.2 in
+    record {
+      node = record {
+        sound = subst₂ (λ b h. IsPage (reader.kind_of page.leaf) b h) (sym there) (same_header n) known.sound;
+        size = ap length there ∙ sized n found.0 (given_ok _ _ _ found.1);
+      };
+      same = known.same ∙ sym there;
+    }
+
+bodies_are : (usable n : ℕ) (pages : Part) (bytes : List ℕ) → bytes ≡ pages n → length (pages n) ≡ usable
+    → reader.bodies_of bytes n ≡ map (cell_body (reader.kind_of true) usable) (cells_of (unordered Table usable) true pages n)
+unfolding reader.bodies_of
+bodies_are usable n pages bytes same size =
+    ap (λ b. map (cell_body (reader.kind_of true) (length b)) (page_cells (reader.kind_of true) b (reader.header_of n))) same
+    ∙ ap₂ (λ u h. map (cell_body (reader.kind_of true) u) (page_cells (reader.kind_of true) (pages n) h)) size (same_header n)
+
+children_are : (usable n : ℕ) (pages : Part) (bytes : List ℕ) → bytes ≡ pages n
+    → reader.children_of bytes n ≡ map cell_child (cells_of (unordered Table usable) false pages n) ++ right_of pages n ∷ []
+unfolding reader.children_of
+children_are usable n pages bytes same =
+    ap₂ (λ b h. map cell_child (page_cells (reader.kind_of false) b h) ++ right_child b h ∷ []) same (same_header n)
+
+-- ---- the tree
+
+pub items_of_leaf : (usable levels n : ℕ) (pages : Part) → IsNode (unordered Table usable) true pages n
+    → items_within (unordered Table usable) pages (suc levels) n ≡ map (cell_item (unordered Table usable) true) (cells_of (unordered Table usable) true pages n)
+items_of_leaf usable levels n pages node = cond-true _ _ _ (eq-eqb _ _ node.sound.flag)
+
+pub items_of_interior : (usable levels n : ℕ) (pages : Part) → IsNode (unordered Table usable) false pages n
+    → items_within (unordered Table usable) pages (suc levels) n
+    ≡ fan_items (unordered Table usable) (items_within (unordered Table usable) pages levels) (cells_of (unordered Table usable) false pages n) (right_of pages n)
+items_of_interior usable levels n pages node = cond-false _ _ _ (ne_eqb (slice_index (pages n) (header_of n)) 13 (λ e. omega (arith, e, node.sound.flag)))
+
+abbrev Reads : PageMap → ℕ → ℕ → ℕ → Rows → Rows → Type 0
+Reads pages usable levels n old new =
+    IsTreeWithin (unordered Table usable) (all_pages pages) levels n
+    × Adds (all_pages pages) usable (items_within (unordered Table usable) (all_pages pages) levels n) old new
+
+tree_of_leaf : (pages : PageMap) (usable levels n : ℕ) (bytes : List ℕ) (old new : Rows) → AreSized pages usable
+    → IsNode (unordered Table usable) true (all_pages pages) n → bytes ≡ all_pages pages n
+    → each (row_after pages usable) (reader.bodies_of bytes n) old ≡ Ok new → Reads pages usable (suc levels) n old new
+tree_of_leaf pages usable levels n bytes old new sized node same read =
+    let all = all_pages pages in (
+      inl node,
+      subst (λ items. Adds all usable items old new) (sym (items_of_leaf usable levels n all node))
+          (leaf_read pages usable (omega (arith, node.size, node.sound.usable.0)) sized (cells_of (unordered Table usable) true all n) old new
+          (ap (λ bodies. each (row_after pages usable) bodies old) (sym (bodies_are usable n all bytes same node.size)) ∙ read)),
+    )
+
+tree_of_interior : (pages : PageMap) (usable levels n : ℕ) (bytes : List ℕ) (old new : Rows)
+    → ((c : ℕ) (old new : Rows) → tree_after pages usable levels c old ≡ Ok new → Reads pages usable levels c old new)
+    → IsNode (unordered Table usable) false (all_pages pages) n → bytes ≡ all_pages pages n
+    → each (tree_after pages usable levels) (reader.children_of bytes n) old ≡ Ok new → Reads pages usable (suc levels) n old new
+tree_of_interior pages usable levels n bytes old new below node same read =
+    let all = all_pages pages in
+    let form = unordered Table usable in
+    let fan = fan_read all usable (IsTreeWithin form all levels) (items_within form all levels) (tree_after pages usable levels) below
+    (cells_of form false all n) (right_of all n) old new
+    (ap (λ children. each (tree_after pages usable levels) children old) (sym (children_are usable n all bytes same)) ∙ read) in (
+      inr (node, fan.0),
+      subst (λ items. Adds all usable items old new) (sym (items_of_interior usable levels n all node)) fan.1,
+    )
+
+-- a page of either kind
+abbrev rows_of_page : PageMap → ℕ → ℕ → ℕ → Rows → reader.TablePage → Result Rows Reason
+rows_of_page pages usable levels n old page =
+    cond page.leaf (each (row_after pages usable) (reader.bodies_of page.bytes n) old) (each (tree_after pages usable levels) (reader.children_of page.bytes n) old)
+
+tree_of_page : (pages : PageMap) (usable levels n : ℕ) (page : reader.TablePage) (old new : Rows) → AreSized pages usable
+    → ((c : ℕ) (old new : Rows) → tree_after pages usable levels c old ≡ Ok new → Reads pages usable levels c old new) → NodeKnown pages usable n page
+    → rows_of_page pages usable levels n old page ≡ Ok new → Reads pages usable (suc levels) n old new
+tree_of_page pages usable levels n page old new sized below known read =
+    let node : (leaf : Bool) → page.leaf ≡ leaf → IsNode (unordered Table usable) leaf (all_pages pages) n =
+    λ leaf is. subst (λ l. IsNode (unordered Table usable) l (all_pages pages) n) is known.node in
+    let rows = each (row_after pages usable) (reader.bodies_of page.bytes n) old in
+    let children = each (tree_after pages usable levels) (reader.children_of page.bytes n) old in
+    elim (chosen page.leaf rows children (Ok new) read) [
+      | inl leaf ↦ tree_of_leaf pages usable levels n page.bytes old new sized (node true leaf.0) known.same leaf.1
+      | inr interior ↦ tree_of_interior pages usable levels n page.bytes old new below (node false interior.0) known.same interior.1
+    ]
+
+pub tree_read : (pages : PageMap) (usable : ℕ) → AreSized pages usable → (levels n : ℕ) (old new : Rows) → tree_after pages usable levels n old ≡ Ok new
+    → Reads pages usable levels n old new
+unfolding tree_after
+tree_read pages usable sized zero n old new read = absurd (err_ok read)
+tree_read pages usable sized (suc levels) n old new read =
+    let taken = bound_ok (take_page n old.1) (λ spare. reader.table_page pages n >>= rows_of_page pages usable levels n (old.0, spare)) new read in
+    let found = bound_ok (reader.table_page pages n) (rows_of_page pages usable levels n (old.0, taken.0)) new taken.2 in
+    let reads = tree_of_page pages usable levels n found.0 (old.0, taken.0) new sized (tree_read pages usable sized levels)
+    (node_known pages usable n found.0 sized found.1) found.2 in
+    (reads.0, record { whole = reads.1.whole; rows = reads.1.rows })

@@ -1,0 +1,23 @@
+//! The laws of tables: what `svn_wcdb` reads of a database is what the kit's crates for SQLite's files say that it has. `sqlite_btree` defines trees,
+//! chains of overflow pages and tables for a program that writes them too, and knows nothing of this reader. The laws are in `specs/Laws.antt`; each is
+//! the contract of a function that does nothing: who calls the function has the law.
+//!
+//! - [`tables_are_trees`]: where a table is read, its pages are a tree of well-formed pages, and the rows are those of its leaves, in their order and
+//!   with their overflow pages. The tree is `IsTreeWithin` of `specs/Trees.antt`: the kit's, but for what the reader doesn't test.
+//! - [`stored_rows_are_read`]: if the pages hold a table by the kit's `IsTable`, the rows that are read are the table's.
+//!
+//! What the reader doesn't test: that all leaves are equally deep, that a page below the root has a cell and isn't page 1, that rows ascend, that no page
+//! is there twice, that a payload's length takes at most eight bytes and is below 2^31.
+#![tactic(auto)]
+
+ghost use Rattle.law_wcdb.specs.Laws.{stored_rows_are_read, tables_are_trees};
+
+/// The rows that are read are those of a tree of well-formed pages.
+pub fn tables_are_trees()
+    ensures { tables_are_trees }
+{}
+
+/// Where the pages hold a table by `sqlite_btree`, its rows are read.
+pub fn stored_rows_are_read()
+    ensures { stored_rows_are_read }
+{}
