@@ -20,11 +20,8 @@ use Rattle.svn_wcdb.specs.Tables.{Rows, link_after, chain_end, chain_after, payl
 use Rattle.svn_wcdb.proofs.RecordTests.{tells_records}
 use Rattle.law_wcdb.specs.Laws.{shown}
 use Rattle.law_wcdb.specs.Trees.{IsWholeChain, IsWholeRow}
+use Rattle.law_wcdb.proofs.Pages.{AreSized}
 use Rattle.law_wcdb.proofs.Choices.{ok_same, chosen, unless_fault, bound_ok, given_ok}
-
--- each page has so many bytes
-abbrev pub AreSized : PageMap → ℕ → Type 0
-AreSized pages usable = (n : ℕ) (page : List ℕ) → pages n ≡ Some page → length page ≡ usable
 
 pub page_there : (pages : PageMap) (n : ℕ) (page : List ℕ) → pages n ≡ Some page → all_pages pages n ≡ page
 page_there pages n page there = rw there refl

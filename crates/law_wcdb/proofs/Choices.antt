@@ -17,6 +17,10 @@ pub unless_fault : {A E : Type 0} (b : Bool) (r : Result A E) (e : E) (y : A) �
 unless_fault true r e y h = (refl, h)
 unless_fault false r e y h = absurd (err_ok h)
 
+pub not_refused : {A E : Type 0} (b : Bool) (e : E) (r : Result A E) (y : A) → cond b (Err e) r ≡ Ok y → r ≡ Ok y
+not_refused true e r y h = absurd (err_ok h)
+not_refused false e r y h = h
+
 pub bound_ok : {A B E : Type 0} (r : Result A E) (f : A → Result B E) (y : B) → (r >>= f) ≡ Ok y → (x : A) × (r ≡ Ok x) × (f x ≡ Ok y)
 bound_ok (Ok x) f y h = (x, refl, h)
 bound_ok (Err e) f y h = absurd (err_ok h)

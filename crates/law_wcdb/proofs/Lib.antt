@@ -1,5 +1,7 @@
 -- readings that gave something
 mod Choices
+-- the pages of a file
+mod Pages
 -- chains of overflow pages, and rows
 mod ChainReads
 -- pages, and trees of them

@@ -9,15 +9,16 @@ use Rattle.svn_wcdb.specs.Images.{page_in}
 use Rattle.svn_wcdb.specs.Tables.{table_rows}
 use Rattle.law_wcdb.specs.Laws.{shown, rows_among, tables_are_trees, stored_rows_are_read}
 use Rattle.law_wcdb.proofs.Choices.{ok_same, bound_ok}
-use Rattle.law_wcdb.proofs.TreeReads.{pages_sized, tree_read}
+use Rattle.law_wcdb.proofs.Pages.{usable_fits, pages_sized}
+use Rattle.law_wcdb.proofs.TreeReads.{tree_read}
 use Rattle.law_wcdb.proofs.StoredReads.{tree_read_as}
 
 pub tables_read : tables_are_trees
 unfolding table_rows
-tables_read file root rows fits read =
+tables_read bytes file root rows image read =
     let found = bound_ok _ _ _ read in
     let whole = bound_ok _ _ _ found.1 in
-    let tree = tree_read (page_in file) file.usable (pages_sized file fits) 20 root _ whole.0 whole.1 in
+    let tree = tree_read (page_in file) file.usable (pages_sized file (usable_fits bytes file image)) 20 root _ whole.0 whole.1 in
     record {
       tree = tree.0;
       whole = tree.1.whole;
@@ -26,14 +27,14 @@ tables_read file root rows fits read =
 
 pub stored_read : stored_rows_are_read
 unfolding entries_at
-stored_read file root rows stored layout fits laid table read =
+stored_read bytes file root rows stored layout image laid table read =
     let usable = file.usable in
     let all = all_pages (page_in file) in
     let form = form_of Table no_order usable all in
     let is = table.stored in
     let tall = tree_read_as usable (form_of Table no_order usable layout.spill).order form.order layout.nodes (page_in file) laid.nodes is.height 20 root
     is.shape.top is.shape.shallow in
-    sym (tables_read file root rows fits read).holds
+    sym (tables_read bytes file root rows image read).holds
     ∙ ap (rows_among all usable) (tall.items ∙ ap (λ h. tree_items form all h root) (sym tall.height))
     ∙ ap (map as_row) (entries_at-stored (page_in file) laid is)
     ∙ table.shows

@@ -1,9 +1,8 @@
 -- What is read of pages and of trees.
-use Rattle.std.proofs.Common.{◌≡◌, inl, inr, ℕ, zero, suc, ◌-◌, ◌*◌, ◌<◌, ◌≤◌, Bool, true, false, cond, List, [], ◌∷◌, ◌++◌, length, map, drop, Some, None, Result, Ok, Err, refl, sym, ap, ap₂, subst, subst₂, ◌∙◌, arith, append_assoc, append-nil, eq-eqb, ne_eqb, length-drop, length-take-le, suc-mul}
+use Rattle.std.proofs.Common.{◌≡◌, inl, inr, ℕ, zero, suc, ◌<◌, Bool, true, false, cond, List, [], ◌∷◌, ◌++◌, length, map, Result, Ok, Err, refl, sym, ap, ap₂, subst, subst₂, ◌∙◌, arith, append_assoc, append-nil, eq-eqb, ne_eqb}
 use Rattle.std.proofs.lemmas.Bool.{cond-true, cond-false}
-use Rattle.std.proofs.lemmas.Bool.Decides.{Decides-and}
 use Rattle.std.proofs.lemmas.List.{map-append}
-use Rattle.std.specs.Prelude.{nat_le, slice_index, ◌&&◌}
+use Rattle.std.specs.Prelude.{slice_index}
 use Rattle.sqlite_pages.specs.PageMap.{PageMap}
 use Rattle.sqlite_format.specs.declared.kind.Tree.TheVariants.{Table}
 use Rattle.sqlite_format.specs.Cell.{cell_body, cell_child}
@@ -17,40 +16,15 @@ use Rattle.sqlite_btree.specs.Stored.{unordered, as_row}
 use Rattle.sqlite_btree.proofs.CutLemmas.{Each-append, rows_of-append}
 use Rattle.svn_wcdb.specs.declared.fault.Reason.{Reason}
 use Rattle.svn_wcdb.specs.declared.fault.Reason.TheVariants.{BadPage}
-use Rattle.svn_wcdb.specs.Images.{File, page_in}
 use Rattle.svn_wcdb.specs.Pages as reader
 use Rattle.svn_wcdb.specs.Reading.{◌>>=◌, each}
 use Rattle.svn_wcdb.specs.Tables.{Rows, take_page, row_after, tree_after}
-use Rattle.svn_wcdb.proofs.PageTests.{Decides-leb, tells_pages}
+use Rattle.svn_wcdb.proofs.PageTests.{tells_pages}
 use Rattle.law_wcdb.specs.Laws.{shown, rows_among}
 use Rattle.law_wcdb.specs.Trees.{IsTreeWithin, items_within, IsWholeItem}
 use Rattle.law_wcdb.proofs.Choices.{ok_same, err_ok, chosen, bound_ok, given_ok}
-use Rattle.law_wcdb.proofs.ChainReads.{AreSized, page_there, row_read}
-
--- ---- the pages of a file
-
-some_same : (x y : List ℕ) → Some x ≡ Some y → x ≡ y
-some_same x y h = cc
-
-none_some : (x : List ℕ) → None ≡ Some x → ⊥
-none_some x h = cc
-
-room : (n size len : ℕ) → 1 ≤ n → n * size ≤ len → size ≤ len - (n - 1) * size
-room zero size len some within = absurd (omega (arith, some))
-room (suc n) size len some within =
-    let less : suc n - 1 ≡ n = omega arith in
-    subst (λ k. size ≤ len - k * size) (sym less) (omega (arith, within, suc-mul n size))
-
-pub pages_sized : (file : File) → file.usable ≤ file.size → AreSized (page_in file) file.usable
-pages_sized file fits n page there =
-    elim (chosen (nat_le 1 n && nat_le (n * file.size) (length file.bytes)) _ _ _ there) [
-      | inl inside ↦
-          let within = (Decides-and _ _ (Decides-leb 1 n) (Decides-leb (n * file.size) (length file.bytes))).0 inside.0 in
-          let rest = drop ((n - 1) * file.size) file.bytes in
-          ap length (sym (some_same _ _ inside.1))
-          ∙ length-take-le file.usable rest (omega (arith, fits, length-drop ((n - 1) * file.size) file.bytes, room n file.size (length file.bytes) within.0 within.1))
-      | inr outside ↦ absurd (none_some page outside.1)
-    ]
+use Rattle.law_wcdb.proofs.ChainReads.{page_there, row_read}
+use Rattle.law_wcdb.proofs.Pages.{AreSized}
 
 -- ---- rows that are read after others
 

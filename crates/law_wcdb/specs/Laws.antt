@@ -1,7 +1,7 @@
 -- The laws of tables, as statements. Each is the contract of the function of its name.
 --     rows_read file root      the rows of the table with that root page, each with its number, as a caller of `sqlite_btree` has them
 --     IsTableRead pages usable root rows      the rows are those of the tree at the root page
-use Rattle.std.specs.Prelude.{◌≡◌, ◌≤◌, ℕ, ℤ, List, map, Result, Ok}
+use Rattle.std.specs.Prelude.{◌≡◌, ℕ, ℤ, List, map, Result, Ok}
 use Rattle.std.specs.Int.{w64, cast_signed}
 use Rattle.sqlite_format.specs.declared.kind.Tree.TheVariants.{Table}
 use Rattle.sqlite_btree.specs.Cut.{Each}
@@ -10,7 +10,7 @@ use Rattle.sqlite_btree.specs.Items.{Item, rows_of}
 use Rattle.sqlite_btree.specs.Chain.{Layout, entry_of}
 use Rattle.sqlite_btree.specs.Stored.{IsTable, IsLaidIn, unordered, as_row}
 use Rattle.svn_wcdb.specs.declared.fault.Reason.{Reason}
-use Rattle.svn_wcdb.specs.Images.{File, page_in}
+use Rattle.svn_wcdb.specs.Images.{File, image_of, page_in}
 use Rattle.svn_wcdb.specs.Reading.{◌>>=◌}
 use Rattle.svn_wcdb.specs.Tables.{Rows, table_rows}
 use Rattle.law_wcdb.specs.Trees.{IsTreeWithin, items_within, IsWholeItem}
@@ -43,11 +43,11 @@ pub record IsTableRead (pages : Part) (usable root : ℕ) (rows : List Row) : Ty
 
 abbrev pub tables_are_trees : Type 0
 tables_are_trees =
-    (file : File) (root : ℕ) (rows : List Row) → file.usable ≤ file.size → rows_read file root ≡ Ok rows
+    (bytes : List ℕ) (file : File) (root : ℕ) (rows : List Row) → image_of bytes ≡ Ok file → rows_read file root ≡ Ok rows
     → IsTableRead (all_pages (page_in file)) file.usable root rows
 
 -- whatever else the file has
 abbrev pub stored_rows_are_read : Type 0
 stored_rows_are_read =
-    (file : File) (root : ℕ) (rows stored : List Row) (layout : Layout) → file.usable ≤ file.size
+    (bytes : List ℕ) (file : File) (root : ℕ) (rows stored : List Row) (layout : Layout) → image_of bytes ≡ Ok file
     → IsLaidIn layout (page_in file) → IsTable file.usable layout root stored → rows_read file root ≡ Ok rows → rows ≡ stored
