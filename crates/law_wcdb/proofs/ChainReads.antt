@@ -27,9 +27,9 @@ pub page_there : (pages : PageMap) (n : ℕ) (page : List ℕ) → pages n ≡ S
 page_there pages n page there = rw there refl
 
 -- the bytes from a page on are read after those before them
-record ReadsChain (pages : Part) (usable fuel n left : ℕ) (old new : List ℕ) : Type 0 where
-  chain : IsWholeChain pages usable fuel n left
-  bytes : new ≡ old ++ chain_bytes pages usable fuel n left
+pub record ReadsChain (pages : Part) (usable fuel n left : ℕ) (old new : List ℕ) : Type 0 where
+  pub chain : IsWholeChain pages usable fuel n left
+  pub bytes : new ≡ old ++ chain_bytes pages usable fuel n left
 
 no_link : (pages : Part) (usable fuel n left : ℕ) → left ≡ 0 → n ≡ 0 → IsWholeChain pages usable fuel n left
 no_link pages usable zero n left none end = (none, end)
@@ -46,14 +46,14 @@ chain_ended pages usable fuel n left old spare new rest none read =
     }
 
 -- one page of a chain
-record ReadsLink (pages : PageMap) (usable n left : ℕ) (old : List ℕ) (link : ℕ × ℕ × List ℕ) : Type 0 where
-  page : List ℕ
-  there : pages n ≡ Some page
-  next : link.0 ≡ u32_at page 0
-  left_is : link.1 ≡ left - min (usable - 4) left
-  bytes : link.2 ≡ old ++ take (min (usable - 4) left) (drop 4 page)
+pub record ReadsLink (pages : PageMap) (usable n left : ℕ) (old : List ℕ) (link : ℕ × ℕ × List ℕ) : Type 0 where
+  pub page : List ℕ
+  pub there : pages n ≡ Some page
+  pub next : link.0 ≡ u32_at page 0
+  pub left_is : link.1 ≡ left - min (usable - 4) left
+  pub bytes : link.2 ≡ old ++ take (min (usable - 4) left) (drop 4 page)
 
-link_read : (pages : PageMap) (usable n left : ℕ) (old : List ℕ) (link : ℕ × ℕ × List ℕ) → link_after pages usable n left old ≡ Ok link
+pub link_read : (pages : PageMap) (usable n left : ℕ) (old : List ℕ) (link : ℕ × ℕ × List ℕ) → link_after pages usable n left old ≡ Ok link
     → ReadsLink pages usable n left old link
 unfolding link_after
 link_read pages usable n left old link read =
@@ -109,7 +109,7 @@ chain_read pages usable size sized (suc spare) (suc fuel) n left old new rest en
     ]
 
 -- a row's payload
-payload_read : (pages : PageMap) (usable : ℕ) (row : List ℕ) (spare : ℕ) (bytes : List ℕ) (rest : ℕ) → 4 < usable → AreSized pages usable
+pub payload_read : (pages : PageMap) (usable : ℕ) (row : List ℕ) (spare : ℕ) (bytes : List ℕ) (rest : ℕ) → 4 < usable → AreSized pages usable
     → payload_of pages usable row spare ≡ Ok (bytes, rest)
     → ReadsChain (all_pages pages) usable (spilled_len Table usable row) (first_overflow Table usable row) (spilled_len Table usable row) (local_part Table usable row) bytes
 unfolding payload_of

@@ -1,5 +1,5 @@
 -- What a reading was, from what came of it.
-use Rattle.std.proofs.Common.{◌≡◌, ◌⊎◌, inl, inr, Bool, true, false, cond, Option, Some, None, Result, Ok, Err, refl}
+use Rattle.std.proofs.Common.{◌≡◌, ◌⊎◌, inl, inr, Bool, true, false, cond, Option, Some, None, Result, Ok, Err, refl, ap}
 use Rattle.svn_wcdb.specs.Reading.{◌>>=◌, given}
 
 pub ok_same : {A E : Type 0} {x y : A} → ◌≡◌ {A = Result A E} (Ok x) (Ok y) → x ≡ y
@@ -28,3 +28,14 @@ bound_ok (Err e) f y h = absurd (err_ok h)
 pub given_ok : {A E : Type 0} (e : E) (o : Option A) (y : A) → given e o ≡ Ok y → o ≡ Some y
 given_ok e (Some x) y h = cc
 given_ok e None y h = absurd (err_ok h)
+
+pub ok_err : {A E : Type 0} {y : A} {e : E} → ◌≡◌ {A = Result A E} (Ok y) (Err e) → ⊥
+ok_err h = cc
+
+pub err_same : {A E : Type 0} {x y : E} → ◌≡◌ {A = Result A E} (Err x) (Err y) → x ≡ y
+err_same h = cc
+
+-- where the first fault is
+pub bound_err : {A B E : Type 0} (r : Result A E) (f : A → Result B E) (e : E) → (r >>= f) ≡ Err e → (r ≡ Err e) ⊎ ((x : A) × (r ≡ Ok x) × (f x ≡ Err e))
+bound_err (Ok x) f e h = inr (x, refl, h)
+bound_err (Err fault) f e h = inl (ap Err (err_same h))

@@ -6,6 +6,8 @@ mod Pages
 mod ChainReads
 -- pages, and trees of them
 mod TreeReads
+-- trees that are refused
+mod TreeFaults
 -- trees that the pages hold
 mod StoredReads
 -- the laws

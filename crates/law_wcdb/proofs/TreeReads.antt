@@ -92,7 +92,7 @@ fan_read pages usable IsSub items step reads (cell ∷ cells) last old new read 
 
 -- ---- one page
 
-same_header : (n : ℕ) → reader.header_of n ≡ header_of n
+pub same_header : (n : ℕ) → reader.header_of n ≡ header_of n
 unfolding header_of
 same_header n = refl
 
@@ -139,14 +139,14 @@ node_known pages usable n page sized read =
       same = known.same ∙ sym there;
     }
 
-bodies_are : (usable n : ℕ) (pages : Part) (bytes : List ℕ) → bytes ≡ pages n → length (pages n) ≡ usable
+pub bodies_are : (usable n : ℕ) (pages : Part) (bytes : List ℕ) → bytes ≡ pages n → length (pages n) ≡ usable
     → reader.bodies_of bytes n ≡ map (cell_body (reader.kind_of true) usable) (cells_of (unordered Table usable) true pages n)
 unfolding reader.bodies_of
 bodies_are usable n pages bytes same size =
     ap (λ b. map (cell_body (reader.kind_of true) (length b)) (page_cells (reader.kind_of true) b (reader.header_of n))) same
     ∙ ap₂ (λ u h. map (cell_body (reader.kind_of true) u) (page_cells (reader.kind_of true) (pages n) h)) size (same_header n)
 
-children_are : (usable n : ℕ) (pages : Part) (bytes : List ℕ) → bytes ≡ pages n
+pub children_are : (usable n : ℕ) (pages : Part) (bytes : List ℕ) → bytes ≡ pages n
     → reader.children_of bytes n ≡ map cell_child (cells_of (unordered Table usable) false pages n) ++ right_of pages n ∷ []
 unfolding reader.children_of
 children_are usable n pages bytes same =
@@ -194,7 +194,7 @@ tree_of_interior pages usable levels n bytes old new below node same read =
     )
 
 -- a page of either kind
-abbrev rows_of_page : PageMap → ℕ → ℕ → ℕ → Rows → reader.TablePage → Result Rows Reason
+abbrev pub rows_of_page : PageMap → ℕ → ℕ → ℕ → Rows → reader.TablePage → Result Rows Reason
 rows_of_page pages usable levels n old page =
     cond page.leaf (each (row_after pages usable) (reader.bodies_of page.bytes n) old) (each (tree_after pages usable levels) (reader.children_of page.bytes n) old)
 

@@ -10,11 +10,16 @@
 //! is there twice, that a payload's length takes at most eight bytes and is below 2^31.
 #![tactic(auto)]
 
-ghost use Rattle.law_wcdb.specs.Laws.{stored_rows_are_read, tables_are_trees};
+ghost use Rattle.law_wcdb.specs.Laws.{stored_rows_are_read, tables_are_trees, trees_are_read};
 
 /// The rows that are read are those of a tree of well-formed pages.
 pub fn tables_are_trees()
     ensures { tables_are_trees }
+{}
+
+/// The rows of such a tree are read, if it has no more pages than the file.
+pub fn trees_are_read()
+    ensures { trees_are_read }
 {}
 
 /// Where the pages hold a table by `sqlite_btree`, its rows are read.
