@@ -4,6 +4,8 @@
 use Rattle.std.specs.Prelude.{◌≡◌, ◌⊎◌, ℕ, ℤ, List, map, Result, Ok, Err}
 use Rattle.std.specs.Int.{w64, cast_signed}
 use Rattle.sqlite_format.specs.declared.kind.Tree.TheVariants.{Table}
+use Rattle.sqlite_pages.specs.PageMap.{PageMap}
+use Rattle.sqlite_record.specs.Strict.{IsRecord}
 use Rattle.sqlite_btree.specs.Cut.{Each}
 use Rattle.sqlite_btree.specs.Part.{Part, all_pages}
 use Rattle.sqlite_btree.specs.Items.{Item, rows_of}
@@ -58,3 +60,9 @@ abbrev pub stored_rows_are_read : Type 0
 stored_rows_are_read =
     (bytes : List ℕ) (file : File) (root : ℕ) (rows stored : List Row) (layout : Layout) → image_of bytes ≡ Ok file
     → IsLaidIn layout (page_in file) → IsTable file.usable layout root stored → rows_read file root ≡ Ok rows → rows ≡ stored
+
+-- such a table is one as it is read, if its payloads are records
+abbrev pub stored_tables_are_trees : Type 0
+stored_tables_are_trees =
+    (pages : PageMap) (usable root : ℕ) (stored : List Row) (layout : Layout) → IsLaidIn layout pages → IsTable usable layout root stored
+    → Each (λ (row : Row). IsRecord row.1) stored → IsTableRead (all_pages pages) usable root stored

@@ -4,13 +4,14 @@
 //!
 //! - [`tables_are_trees`]: where a table is read, its pages are a tree of well-formed pages, and the rows are those of its leaves, in their order and
 //!   with their overflow pages. The tree is `IsTreeWithin` of `specs/Trees.antt`: the kit's, but for what the reader doesn't test.
-//! - [`stored_rows_are_read`]: if the pages hold a table by the kit's `IsTable`, the rows that are read are the table's.
+//! - [`trees_are_read`]: of such a tree just these rows are read, unless it takes more pages than the file has.
+//! - [`stored_tables_are_trees`], [`stored_rows_are_read`]: a table of records by the kit's `IsTable` is such a tree, and no other rows are read of it.
 //!
 //! What the reader doesn't test: that all leaves are equally deep, that a page below the root has a cell and isn't page 1, that rows ascend, that no page
 //! is there twice, that a payload's length takes at most eight bytes and is below 2^31.
 #![tactic(auto)]
 
-ghost use Rattle.law_wcdb.specs.Laws.{stored_rows_are_read, tables_are_trees, trees_are_read};
+ghost use Rattle.law_wcdb.specs.Laws.{stored_rows_are_read, stored_tables_are_trees, tables_are_trees, trees_are_read};
 
 /// The rows that are read are those of a tree of well-formed pages.
 pub fn tables_are_trees()
@@ -25,4 +26,9 @@ pub fn trees_are_read()
 /// Where the pages hold a table by `sqlite_btree`, its rows are read.
 pub fn stored_rows_are_read()
     ensures { stored_rows_are_read }
+{}
+
+/// A table by `sqlite_btree`, of records, is such a tree.
+pub fn stored_tables_are_trees()
+    ensures { stored_tables_are_trees }
 {}
