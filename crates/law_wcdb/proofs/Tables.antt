@@ -1,5 +1,5 @@
 -- The laws.
-use Rattle.std.proofs.Common.{◌≡◌, ◌⊎◌, inl, inr, ℕ, ◌/◌, Bool, List, [], length, map, Result, Ok, Err, refl, sym, ap, subst, ◌∙◌, arith}
+use Rattle.std.proofs.Common.{◌≡◌, ℕ, ◌/◌, Bool, List, [], length, map, Result, Ok, Err, refl, sym, ap, subst, ◌∙◌, arith}
 use Rattle.sqlite_format.specs.declared.kind.Tree.TheVariants.{Table}
 use Rattle.sqlite_btree.specs.Part.{all_pages}
 use Rattle.sqlite_pages.specs.PageMap.{PageMap}
@@ -11,10 +11,9 @@ use Rattle.sqlite_btree.specs.Tree.{tree_items}
 use Rattle.sqlite_btree.specs.Stored.{IsTable, IsLaidIn, form_of, no_order, as_row, entries_at}
 use Rattle.sqlite_btree.proofs.StoredLemmas.{entries_at-stored}
 use Rattle.svn_wcdb.specs.declared.fault.Reason.{Reason}
-use Rattle.svn_wcdb.specs.declared.fault.Reason.TheVariants.{Loop}
-use Rattle.svn_wcdb.specs.Images.{page_in}
+use Rattle.svn_wcdb.specs.Images.{File, image_of, page_in}
 use Rattle.svn_wcdb.specs.Tables.{Rows, tree_after, table_rows}
-use Rattle.law_wcdb.specs.Laws.{Row, table_items, stored_tables_are_trees, shown, rows_read, rows_among, tables_are_trees, trees_are_read, stored_rows_are_read}
+use Rattle.law_wcdb.specs.Laws.{HasPages, IsTableRead, Row, table_items, stored_tables_are_trees, shown, rows_read, rows_among, tables_are_trees, trees_are_read, stored_rows_are_read}
 use Rattle.law_wcdb.proofs.Choices.{ok_same, bound_ok}
 use Rattle.law_wcdb.proofs.Pages.{usable_fits, pages_sized}
 use Rattle.law_wcdb.proofs.TreeReads.{tree_read}
@@ -72,16 +71,27 @@ stored_trees pages usable root stored layout laid table records =
       holds = holds;
     }
 
-pub trees_read : trees_are_read
+few_pages : (bytes : List ℕ) (file : File) (root : ℕ) (rows : List Row) → image_of bytes ≡ Ok file → rows_read file root ≡ Ok rows → HasPages file root
 unfolding table_rows
-trees_read bytes file root rows image is = go (tree_after (page_in file) file.usable 20 root ([], length file.bytes / file.size)) refl
+few_pages bytes file root rows image read =
+    let found = bound_ok _ _ _ read in
+    let whole = bound_ok _ _ _ found.1 in
+    let tree = tree_read (page_in file) file.usable (pages_sized file (usable_fits bytes file image)) 20 root _ whole.0 whole.1 in
+    omega (arith, tree.1.taken)
+
+is_read : (bytes : List ℕ) (file : File) (root : ℕ) (rows : List Row) → image_of bytes ≡ Ok file → IsTableRead (all_pages (page_in file)) file.usable root rows
+    → HasPages file root → rows_read file root ≡ Ok rows
+unfolding table_rows
+is_read bytes file root rows image is few = go (tree_after (page_in file) file.usable 20 root ([], length file.bytes / file.size)) refl
   where
-    go : (r : Result Rows Reason) → tree_after (page_in file) file.usable 20 root ([], length file.bytes / file.size) ≡ r
-        → (rows_read file root ≡ Ok rows) ⊎ ((n : ℕ) × (rows_read file root ≡ Err (Loop n)))
+    go : (r : Result Rows Reason) → tree_after (page_in file) file.usable 20 root ([], length file.bytes / file.size) ≡ r → rows_read file root ≡ Ok rows
     go (Ok found) read =
         let all : rows_read file root ≡ Ok (shown found) = rw read refl in
-        inl (all ∙ ap Ok (sym (tables_read bytes file root (shown found) image all).holds ∙ is.holds))
+        all ∙ ap Ok (sym (tables_read bytes file root (shown found) image all).holds ∙ is.holds)
     go (Err fault) read =
-        let loop = tree_fault (page_in file) file.usable (pages_sized file (usable_fits bytes file image)) 20 root _ fault is.tree is.whole read in
-        let all : rows_read file root ≡ Err fault = rw read refl in
-        inr (loop.0, all ∙ ap Err loop.1)
+        let out = tree_fault (page_in file) file.usable (pages_sized file (usable_fits bytes file image)) 20 root _ fault is.tree is.whole read in
+        absurd (omega (arith, few, out.2))
+
+pub trees_read : trees_are_read
+trees_read bytes file root rows image =
+    (λ read. (tables_read bytes file root rows image read, few_pages bytes file root rows image read), λ both. is_read bytes file root rows image both.0 both.1)

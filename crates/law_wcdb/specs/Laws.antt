@@ -1,7 +1,7 @@
 -- The laws of tables, as statements. Each is the contract of the function of its name.
 --     rows_read file root      the rows of the table with that root page, each with its number, as a caller of `sqlite_btree` has them
 --     IsTableRead pages usable root rows      the rows are those of the tree at the root page
-use Rattle.std.specs.Prelude.{◌≡◌, ◌⊎◌, ℕ, ℤ, List, map, Result, Ok, Err}
+use Rattle.std.specs.Prelude.{◌≡◌, ◌↔◌, ◌≤◌, ◌/◌, ℕ, ℤ, List, length, map, Result, Ok}
 use Rattle.std.specs.Int.{w64, cast_signed}
 use Rattle.sqlite_format.specs.declared.kind.Tree.TheVariants.{Table}
 use Rattle.sqlite_pages.specs.PageMap.{PageMap}
@@ -12,11 +12,10 @@ use Rattle.sqlite_btree.specs.Items.{Item, rows_of}
 use Rattle.sqlite_btree.specs.Chain.{Layout, entry_of}
 use Rattle.sqlite_btree.specs.Stored.{IsTable, IsLaidIn, unordered, as_row}
 use Rattle.svn_wcdb.specs.declared.fault.Reason.{Reason}
-use Rattle.svn_wcdb.specs.declared.fault.Reason.TheVariants.{Loop}
 use Rattle.svn_wcdb.specs.Images.{File, image_of, page_in}
 use Rattle.svn_wcdb.specs.Reading.{◌>>=◌}
 use Rattle.svn_wcdb.specs.Tables.{Rows, table_rows}
-use Rattle.law_wcdb.specs.Trees.{IsTreeWithin, items_within, IsWholeItem}
+use Rattle.law_wcdb.specs.Trees.{IsTreeWithin, items_within, pages_within, IsWholeItem}
 
 abbrev pub Row : Type 0
 Row = ℤ × List ℕ
@@ -44,16 +43,20 @@ pub record IsTableRead (pages : Part) (usable root : ℕ) (rows : List Row) : Ty
   pub whole : Each (IsWholeItem pages usable) (table_items pages usable root)
   pub holds : rows_among pages usable (table_items pages usable root) ≡ rows
 
+-- the pages of the table, each as often as it is there, are as many as the file's or fewer
+abbrev pub HasPages : File → ℕ → Type 0
+HasPages file root = pages_within (unordered Table file.usable) (all_pages (page_in file)) 20 root ≤ length file.bytes / file.size
+
 abbrev pub tables_are_trees : Type 0
 tables_are_trees =
     (bytes : List ℕ) (file : File) (root : ℕ) (rows : List Row) → image_of bytes ≡ Ok file → rows_read file root ≡ Ok rows
     → IsTableRead (all_pages (page_in file)) file.usable root rows
 
--- No other rows are read of such pages, and they are refused only where they are more than the file has, one that is there twice counted twice.
+-- exactly those rows, exactly if they take no more pages than the file has
 abbrev pub trees_are_read : Type 0
 trees_are_read =
-    (bytes : List ℕ) (file : File) (root : ℕ) (rows : List Row) → image_of bytes ≡ Ok file → IsTableRead (all_pages (page_in file)) file.usable root rows
-    → (rows_read file root ≡ Ok rows) ⊎ ((n : ℕ) × (rows_read file root ≡ Err (Loop n)))
+    (bytes : List ℕ) (file : File) (root : ℕ) (rows : List Row) → image_of bytes ≡ Ok file
+    → ((rows_read file root ≡ Ok rows) ↔ (IsTableRead (all_pages (page_in file)) file.usable root rows × HasPages file root))
 
 -- whatever else the file has
 abbrev pub stored_rows_are_read : Type 0

@@ -4,7 +4,7 @@
 //!
 //! - [`tables_are_trees`]: where a table is read, its pages are a tree of well-formed pages, and the rows are those of its leaves, in their order and
 //!   with their overflow pages. The tree is `IsTreeWithin` of `specs/Trees.antt`: the kit's, but for what the reader doesn't test.
-//! - [`trees_are_read`]: of such a tree just these rows are read, unless it takes more pages than the file has.
+//! - [`trees_are_read`]: the rows of such a tree are read exactly if it takes no more pages than the file has (`HasPages`).
 //! - [`stored_tables_are_trees`], [`stored_rows_are_read`]: a table of records by the kit's `IsTable` is such a tree, and no other rows are read of it.
 //!
 //! What the reader doesn't test: that all leaves are equally deep, that a page below the root has a cell and isn't page 1, that rows ascend, that no page
@@ -18,7 +18,7 @@ pub fn tables_are_trees()
     ensures { tables_are_trees }
 {}
 
-/// The rows of such a tree are read, if it has no more pages than the file.
+/// The rows of such a tree are read exactly if it takes no more pages than the file has.
 pub fn trees_are_read()
     ensures { trees_are_read }
 {}
