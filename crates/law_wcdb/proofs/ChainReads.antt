@@ -122,8 +122,8 @@ chain_read pages usable size sized (suc spare) (suc fuel) n left old new rest en
 -- a row's payload
 pub payload_read : (pages : PageMap) (usable : ℕ) (row : List ℕ) (spare : ℕ) (bytes : List ℕ) (rest : ℕ) → 4 < usable → AreSized pages usable
     → payload_of pages usable row spare ≡ Ok (bytes, rest)
-    → ReadsChain (all_pages pages) usable (spilled_len Table usable row) (first_overflow Table usable row) (spilled_len Table usable row) (local_part Table usable row) bytes
-    spare rest
+    → ReadsChain (all_pages pages) usable (spilled_len Table usable row) (first_overflow Table usable row) (spilled_len Table usable row)
+    (local_part Table usable row) bytes spare rest
 unfolding payload_of
 payload_read pages usable row spare bytes rest size sized read =
     chain_read pages usable size sized spare (spilled_len Table usable row) (first_overflow Table usable row) (spilled_len Table usable row)
@@ -135,7 +135,8 @@ pub record ReadsRow (pages : Part) (usable : ℕ) (row : List ℕ) (old new : Ro
   pub taken : old.1 ≡ new.1 + row_pages pages usable row
   pub rows : shown new ≡ shown old ++ as_row (entry_of Table usable pages (item true row)) ∷ []
 
-shown_one : (old : Rows) (rowid : ℕ) (bytes : List ℕ) (spare : ℕ) → shown (old.0 ++ record { rowid = rowid; bytes = bytes } ∷ [], spare) ≡ shown old ++ (cast_signed w64 rowid, bytes) ∷ []
+shown_one : (old : Rows) (rowid : ℕ) (bytes : List ℕ) (spare : ℕ) → shown (old.0 ++ record { rowid = rowid; bytes = bytes } ∷ [], spare)
+    ≡ shown old ++ (cast_signed w64 rowid, bytes) ∷ []
 shown_one old rowid bytes spare = map-append _ old.0 _
 
 pub row_read : (pages : PageMap) (usable : ℕ) (row : List ℕ) (old new : Rows) → 4 < usable → AreSized pages usable → row_after pages usable row old ≡ Ok new

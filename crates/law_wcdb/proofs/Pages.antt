@@ -59,7 +59,8 @@ pages_sized file fits n page there =
       | inl inside ↦
           let within = (Decides-and _ _ (Decides-leb 1 n) (Decides-leb (n * file.size) (length file.bytes))).0 inside.0 in
           let rest = drop ((n - 1) * file.size) file.bytes in
+          let enough = room n file.size (length file.bytes) within.0 within.1 in
           ap length (sym (some_same _ _ inside.1))
-          ∙ length-take-le file.usable rest (omega (arith, fits, length-drop ((n - 1) * file.size) file.bytes, room n file.size (length file.bytes) within.0 within.1))
+          ∙ length-take-le file.usable rest (omega (arith, fits, length-drop ((n - 1) * file.size) file.bytes, enough))
       | inr outside ↦ absurd (none_some page outside.1)
     ]

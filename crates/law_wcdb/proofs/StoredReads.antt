@@ -34,7 +34,8 @@ each_child P Q so [] last all = so last all
 each_child P Q so (cell ∷ cells) last all = (so (cell_child cell) all.0, each_child P Q so cells last all.1)
 
 -- a page of the tree is the file's
-node_there : (part : Part) (pages : PageMap) → IsPartOf part pages → (form : Form) (leaf : Bool) (n : ℕ) → IsNode form leaf part n → all_pages pages n ≡ part n
+node_there : (part : Part) (pages : PageMap) → IsPartOf part pages → (form : Form) (leaf : Bool) (n : ℕ) → IsNode form leaf part n → all_pages pages n
+    ≡ part n
 node_there part pages laid form leaf n node = page_there pages n (part n) (laid n (node_live node))
 
 node_read : (usable : ℕ) (order : Item → Item → Bool) (part : Part) (pages : PageMap) → IsPartOf part pages → (leaf : Bool) (n : ℕ)
@@ -71,6 +72,7 @@ tree_read_as usable old new part pages laid (suc h) (suc levels) n top fits =
     λ c tree. tree_read_as usable old new part pages laid h levels c (IsTree-top form part h c tree).0 (omega (arith, fits)) in
     let children : EachChild (IsTree form part h) (cells_of form false all n) (right_of all n) =
     subst (λ b. EachChild (IsTree form part h) (page_cells (kind_at form false) b (header_of n)) (right_child b (header_of n))) (sym there) top.1 in
+    let last = EachChild-last (IsTree form part h) (cells_of form false all n) (right_of all n) children in
     record {
       tree = inr (
         node,
@@ -81,7 +83,7 @@ tree_read_as usable old new part pages laid (suc h) (suc levels) n top fits =
           (tree_items (table_form usable new) part h) refl (λ c tree. (below c tree).kept) (cells_of form false all n) (right_of all n) children
           ∙ ap (λ b. fan_items (table_form usable new) (tree_items (table_form usable new) part h) (page_cells (kind_at form false) b (header_of n))
           (right_child b (header_of n))) there;
-      height = rw node.sound.flag (ap suc (below (right_of all n) (EachChild-last (IsTree form part h) (cells_of form false all n) (right_of all n) children)).height);
+      height = rw node.sound.flag (ap suc (below (right_of all n) last).height);
       items = items_of_interior usable levels n all node
           ∙ fan_same (unordered Table usable) (table_form usable new) (IsTree form part h) (items_within (unordered Table usable) all levels)
           (tree_items (table_form usable new) all h) refl (λ c tree. (below c tree).items) (cells_of form false all n) (right_of all n) children;

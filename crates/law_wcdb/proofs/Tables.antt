@@ -79,7 +79,8 @@ few_pages bytes file root rows image read =
     let tree = tree_read (page_in file) file.usable (pages_sized file (usable_fits bytes file image)) 20 root _ whole.0 whole.1 in
     omega (arith, tree.1.taken)
 
-is_read : (bytes : List ℕ) (file : File) (root : ℕ) (rows : List Row) → image_of bytes ≡ Ok file → IsTableRead (all_pages (page_in file)) file.usable root rows
+is_read : (bytes : List ℕ) (file : File) (root : ℕ) (rows : List Row) → image_of bytes ≡ Ok file
+    → IsTableRead (all_pages (page_in file)) file.usable root rows
     → HasPages file root → rows_read file root ≡ Ok rows
 unfolding table_rows
 is_read bytes file root rows image is few = go (tree_after (page_in file) file.usable 20 root ([], length file.bytes / file.size)) refl

@@ -20,7 +20,7 @@ use Rattle.svn_wcdb.specs.declared.fault.Reason.TheVariants.{Loop, BadRecord}
 use Rattle.svn_wcdb.specs.Pages as reader
 use Rattle.svn_wcdb.specs.Reading.{◌>>=◌, each}
 use Rattle.svn_wcdb.specs.Records.{is_record}
-use Rattle.svn_wcdb.specs.Tables.{Rows, take_page, link_after, chain_end, chain_after, payload_of, rowid_of, row_after, tree_after}
+use Rattle.svn_wcdb.specs.Tables.{Bytes, Rows, take_page, link_after, chain_end, chain_after, payload_of, rowid_of, row_after, tree_after}
 use Rattle.svn_wcdb.proofs.RecordTests.{tells_records}
 use Rattle.svn_wcdb.proofs.TreeLemmas.{page_at}
 use Rattle.law_wcdb.specs.Trees.{IsTreeWithin, items_within, pages_within, fan_pages, row_pages, chain_pages, IsWholeChain, IsWholeRow, IsWholeItem}
@@ -56,6 +56,10 @@ link_there : (pages : PageMap) (usable n left : ℕ) (old page : List ℕ) → p
 unfolding link_after
 link_there pages usable n left old page there = rw there refl
 
+-- what is read where bytes are left
+abbrev links_after : PageMap → ℕ → ℕ → ℕ → ℕ → List ℕ → Result Bytes Reason
+links_after pages usable spare n left old = link_after pages usable n left old >>= λ link. chain_after pages usable spare link.0 link.1 link.2
+
 chain_fault : (pages : PageMap) (usable : ℕ) → 4 < usable → (spare fuel n left : ℕ) (old : List ℕ) (fault : Reason)
     → IsWholeChain (all_pages pages) usable fuel n left → chain_after pages usable spare n left old ≡ Err fault
     → RunsOut fault spare (chain_pages (all_pages pages) usable fuel n left)
@@ -70,16 +74,16 @@ chain_fault pages usable size zero (suc fuel) n left old fault chain read =
           (n, sym (err_same none.1), omega (arith, one_taken (all_pages pages) usable fuel n left some))
     ]
 chain_fault pages usable size (suc spare) zero n left old fault chain read =
-    let end = cond-true (nat_eq left 0) (chain_end n old (suc spare)) (link_after pages usable n left old >>= λ link. chain_after pages usable spare link.0 link.1 link.2)
+    let end = cond-true (nat_eq left 0) (chain_end n old (suc spare)) (links_after pages usable spare n left old)
     (eq-eqb left 0 chain.0) in
     absurd (ended n old (suc spare) fault chain.1 (sym end ∙ read))
 chain_fault pages usable size (suc spare) (suc fuel) n left old fault (inl end) read =
-    let ends = cond-true (nat_eq left 0) (chain_end n old (suc spare)) (link_after pages usable n left old >>= λ link. chain_after pages usable spare link.0 link.1 link.2)
+    let ends = cond-true (nat_eq left 0) (chain_end n old (suc spare)) (links_after pages usable spare n left old)
     (eq-eqb left 0 end.0) in
     absurd (ended n old (suc spare) fault end.1 (sym ends ∙ read))
 chain_fault pages usable size (suc spare) (suc fuel) n left old fault (inr link) read =
     let all = all_pages pages in
-    let more = cond-false (nat_eq left 0) (chain_end n old (suc spare)) (link_after pages usable n left old >>= λ link. chain_after pages usable spare link.0 link.1 link.2)
+    let more = cond-false (nat_eq left 0) (chain_end n old (suc spare)) (links_after pages usable spare n left old)
     (ne_eqb left 0 (λ e. omega (arith, e, link.0))) in
     let there = link_there pages usable n left old (all n) (live_page pages n usable (omega (arith, size)) link.1) in
     elim (bound_err (link_after pages usable n left old) (λ link. chain_after pages usable spare link.0 link.1 link.2) fault (sym more ∙ read)) [
@@ -102,7 +106,8 @@ payload_fault pages usable row spare fault size is read =
     chain_fault pages usable size spare (spilled_len Table usable row) (first_overflow Table usable row) (spilled_len Table usable row)
     (local_part Table usable row) fault is.chain read
 
-row_fault : (pages : PageMap) (usable : ℕ) (row : List ℕ) (old : Rows) (fault : Reason) → 4 < usable → AreSized pages usable → IsWholeRow (all_pages pages) usable row
+row_fault : (pages : PageMap) (usable : ℕ) (row : List ℕ) (old : Rows) (fault : Reason) → 4 < usable → AreSized pages usable
+    → IsWholeRow (all_pages pages) usable row
     → row_after pages usable row old ≡ Err fault → RunsOut fault old.1 (row_pages (all_pages pages) usable row)
 unfolding row_after payload_in
 row_fault pages usable row old fault size sized is read =
@@ -150,7 +155,8 @@ fan_fault pages usable IsSub count items step takes faults (cell ∷ cells) last
           let out = faults (cell_child cell) old fault sub.0 (Each-left (IsWholeItem pages usable) left more whole) failed in
           (out.0, out.1, omega (arith, out.2))
       | inr first ↦
-          let out = fan_fault pages usable IsSub count items step takes faults cells last first.0 fault sub.1 (Each-right (IsWholeItem pages usable) left more whole).1 first.2 in
+          let rest = Each-right (IsWholeItem pages usable) left more whole in
+          let out = fan_fault pages usable IsSub count items step takes faults cells last first.0 fault sub.1 rest.1 first.2 in
           (out.0, out.1, omega (arith, out.2, takes (cell_child cell) old first.0 first.1))
     ]
 
@@ -170,7 +176,8 @@ node_there pages usable n leaf node =
 -- what a page of that kind is refused for
 page_fault : (pages : PageMap) (usable levels n : ℕ) (leaf : Bool) (old : Rows) (fault : Reason) → IsNode (unordered Table usable) leaf (all_pages pages) n
     → tree_after pages usable (suc levels) n old ≡ Err fault
-    → ((count : ℕ) → RunsOut fault old.1 (suc count)) ⊎ ((spare : ℕ) × (old.1 ≡ suc spare) × (rows_of_page pages usable levels n (old.0, spare) (record { leaf = leaf; bytes = all_pages pages n }) ≡ Err fault))
+    → ((count : ℕ) → RunsOut fault old.1 (suc count))
+    ⊎ ((spare : ℕ) × (old.1 ≡ suc spare) × (rows_of_page pages usable levels n (old.0, spare) (record { leaf = leaf; bytes = all_pages pages n }) ≡ Err fault))
 unfolding tree_after
 page_fault pages usable levels n leaf old fault node read =
     let there = node_there pages usable n leaf node in

@@ -42,9 +42,11 @@ rows_among-append pages usable xs ys =
     ∙ map-append as_row (map (entry_of Table usable pages) (rows_of xs)) (map (entry_of Table usable pages) (rows_of ys))
 
 adds_none : (pages : Part) (usable : ℕ) (old new : Rows) → old ≡ new → Adds pages usable 0 [] old new
-adds_none pages usable old new same = record { taken = omega (arith, ap (λ (r : Rows). r.1) same); whole = tt; rows = ap shown (sym same) ∙ sym (append-nil (shown old)) }
+adds_none pages usable old new same =
+    record { taken = omega (arith, ap (λ (r : Rows). r.1) same); whole = tt; rows = ap shown (sym same) ∙ sym (append-nil (shown old)) }
 
-adds_both : (pages : Part) (usable some more : ℕ) (xs ys : List Item) (old mid new : Rows) → Adds pages usable some xs old mid → Adds pages usable more ys mid new
+adds_both : (pages : Part) (usable some more : ℕ) (xs ys : List Item) (old mid new : Rows) → Adds pages usable some xs old mid
+    → Adds pages usable more ys mid new
     → Adds pages usable (some + more) (xs ++ ys) old new
 adds_both pages usable some more xs ys old mid new first second =
     record {
@@ -79,7 +81,8 @@ leaf_read pages usable size sized (cell ∷ cells) old new read =
     let row = row_read pages usable (cell_body (reader.kind_of true) usable cell) old found.0 size sized found.1 in
     subst (λ count. Adds (all_pages pages) usable count (x ∷ map (cell_item (unordered Table usable) true) cells) old new)
     (sym (next_cell (all_pages pages) usable cell cells))
-    (adds_both (all_pages pages) usable (row_pages (all_pages pages) usable (body_of x)) (leaf_pages (all_pages pages) usable cells) (x ∷ []) (map (cell_item (unordered Table usable) true) cells) old found.0 new
+    (adds_both (all_pages pages) usable (row_pages (all_pages pages) usable (body_of x)) (leaf_pages (all_pages pages) usable cells)
+    (x ∷ []) (map (cell_item (unordered Table usable) true) cells) old found.0 new
     (record { taken = row.taken; whole = (λ _. row.whole, tt); rows = row.rows })
     (leaf_read pages usable size sized cells found.0 new found.2))
 
@@ -98,7 +101,8 @@ fan_read pages usable IsSub count items step reads (cell ∷ cells) last old new
     let rest = fan_read pages usable IsSub count items step reads cells last found.0 new found.2 in
     let more = fan_items (unordered Table usable) items cells last in (
       (first.0, rest.0),
-      adds_both pages usable (count (cell_child cell)) (fan_pages count cells last) (items (cell_child cell)) (cell_item (unordered Table usable) false cell ∷ more) old found.0 new first.1
+      adds_both pages usable (count (cell_child cell)) (fan_pages count cells last)
+          (items (cell_child cell)) (cell_item (unordered Table usable) false cell ∷ more) old found.0 new first.1
           (adds_divider pages usable (fan_pages count cells last) _ more found.0 new rest.1),
     )
 
@@ -137,7 +141,8 @@ record NodeKnown (pages : PageMap) (usable n : ℕ) (page : reader.TablePage) : 
   node : IsNode (unordered Table usable) page.leaf (all_pages pages) n
   same : page.bytes ≡ all_pages pages n
 
-node_known : (pages : PageMap) (usable n : ℕ) (page : reader.TablePage) → AreSized pages usable → reader.table_page pages n ≡ Ok page → NodeKnown pages usable n page
+node_known : (pages : PageMap) (usable n : ℕ) (page : reader.TablePage) → AreSized pages usable → reader.table_page pages n ≡ Ok page
+    → NodeKnown pages usable n page
 unfolding reader.table_page
 node_known pages usable n page sized read =
     let found = bound_ok _ _ _ read in
@@ -167,12 +172,14 @@ children_are usable n pages bytes same =
 -- ---- the tree
 
 pub items_of_leaf : (usable levels n : ℕ) (pages : Part) → IsNode (unordered Table usable) true pages n
-    → items_within (unordered Table usable) pages (suc levels) n ≡ map (cell_item (unordered Table usable) true) (cells_of (unordered Table usable) true pages n)
+    → items_within (unordered Table usable) pages (suc levels) n
+    ≡ map (cell_item (unordered Table usable) true) (cells_of (unordered Table usable) true pages n)
 items_of_leaf usable levels n pages node = cond-true _ _ _ (eq-eqb _ _ node.sound.flag)
 
 pub items_of_interior : (usable levels n : ℕ) (pages : Part) → IsNode (unordered Table usable) false pages n
     → items_within (unordered Table usable) pages (suc levels) n
-    ≡ fan_items (unordered Table usable) (items_within (unordered Table usable) pages levels) (cells_of (unordered Table usable) false pages n) (right_of pages n)
+    ≡ fan_items (unordered Table usable) (items_within (unordered Table usable) pages levels)
+    (cells_of (unordered Table usable) false pages n) (right_of pages n)
 items_of_interior usable levels n pages node = cond-false _ _ _ (ne_eqb (slice_index (pages n) (header_of n)) 13 (λ e. omega (arith, e, node.sound.flag)))
 
 pub pages_of_leaf : (usable levels n : ℕ) (pages : Part) → IsNode (unordered Table usable) true pages n
@@ -203,7 +210,8 @@ taken_one n (suc old) spare read = ap suc (ok_same read)
 abbrev pub Reads : PageMap → ℕ → ℕ → ℕ → Rows → Rows → Type 0
 Reads pages usable levels n old new =
     IsTreeWithin (unordered Table usable) (all_pages pages) levels n
-    × Adds (all_pages pages) usable (pages_within (unordered Table usable) (all_pages pages) levels n) (items_within (unordered Table usable) (all_pages pages) levels n) old new
+    × Adds (all_pages pages) usable (pages_within (unordered Table usable) (all_pages pages) levels n)
+    (items_within (unordered Table usable) (all_pages pages) levels n) old new
 
 tree_of_leaf : (pages : PageMap) (usable levels n : ℕ) (bytes : List ℕ) (spare : ℕ) (old new : Rows) → old.1 ≡ suc spare → AreSized pages usable
     → IsNode (unordered Table usable) true (all_pages pages) n → bytes ≡ all_pages pages n
@@ -223,7 +231,8 @@ tree_of_interior : (pages : PageMap) (usable levels n : ℕ) (bytes : List ℕ) 
 tree_of_interior pages usable levels n bytes spare old new took below node same read =
     let all = all_pages pages in
     let form = unordered Table usable in
-    let fan = fan_read all usable (IsTreeWithin form all levels) (pages_within form all levels) (items_within form all levels) (tree_after pages usable levels) below
+    let fan = fan_read all usable (IsTreeWithin form all levels) (pages_within form all levels) (items_within form all levels)
+    (tree_after pages usable levels) below
     (cells_of form false all n) (right_of all n) (old.0, spare) new
     (ap (λ children. each (tree_after pages usable levels) children (old.0, spare)) (sym (children_are usable n all bytes same)) ∙ read) in (
       inr (node, fan.0),
@@ -233,7 +242,8 @@ tree_of_interior pages usable levels n bytes spare old new took below node same 
 -- a page of either kind
 abbrev pub rows_of_page : PageMap → ℕ → ℕ → ℕ → Rows → reader.TablePage → Result Rows Reason
 rows_of_page pages usable levels n old page =
-    cond page.leaf (each (row_after pages usable) (reader.bodies_of page.bytes n) old) (each (tree_after pages usable levels) (reader.children_of page.bytes n) old)
+    cond page.leaf (each (row_after pages usable) (reader.bodies_of page.bytes n) old)
+    (each (tree_after pages usable levels) (reader.children_of page.bytes n) old)
 
 tree_of_page : (pages : PageMap) (usable levels n : ℕ) (page : reader.TablePage) (spare : ℕ) (old new : Rows) → old.1 ≡ suc spare → AreSized pages usable
     → ((c : ℕ) (old new : Rows) → tree_after pages usable levels c old ≡ Ok new → Reads pages usable levels c old new) → NodeKnown pages usable n page
