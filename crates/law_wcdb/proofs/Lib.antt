@@ -12,3 +12,5 @@ mod TreeFaults
 mod StoredReads
 -- the laws
 mod Tables
+-- a worked example, computed
+mod Rows
