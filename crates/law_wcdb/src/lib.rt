@@ -23,7 +23,7 @@ pub fn trees_are_read()
     ensures { trees_are_read }
 {}
 
-/// Where the pages hold a table by `sqlite_btree`, its rows are read.
+/// Of pages that hold a table by `sqlite_btree` no other rows are read.
 pub fn stored_rows_are_read()
     ensures { stored_rows_are_read }
 {}
