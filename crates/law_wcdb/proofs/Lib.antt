@@ -10,6 +10,10 @@ mod TreeReads
 mod TreeFaults
 -- trees that the pages hold
 mod StoredReads
+-- pages of a table, no two the same
+mod PagesApart
+mod LinksApart
+mod PageCounts
 -- the laws
 mod Tables
 -- a worked example, computed

@@ -1,5 +1,5 @@
 -- The pages of a file that is whole.
-use Rattle.std.proofs.Common.{◌≡◌, inl, inr, ℕ, zero, suc, ◌+◌, ◌-◌, ◌*◌, ◌≤◌, Bool, true, false, cond, List, Option, Some, None, Ok, Err, length, drop, sym, ap, subst, ◌∙◌, arith, length-drop, length-take-le, suc-mul}
+use Rattle.std.proofs.Common.{take, ◌<◌, ◌/◌, le-div_iff_mul-le, ◌≡◌, inl, inr, ℕ, zero, suc, ◌+◌, ◌-◌, ◌*◌, ◌≤◌, Bool, true, false, cond, List, Option, Some, None, Ok, Err, length, drop, sym, ap, subst, ◌∙◌, arith, length-drop, length-take-le, suc-mul}
 use Rattle.std.proofs.lemmas.Bool.Decides.{Decides-and}
 use Rattle.std.specs.Prelude.{nat_le, slice_index, not, nat_eq, ◌&&◌}
 use Rattle.sqlite_format.specs.Bytes.{u16_at, u32_at}
@@ -53,14 +53,25 @@ room (suc n) size len some within =
     let less : suc n - 1 ≡ n = omega arith in
     subst (λ k. size ≤ len - k * size) (sym less) (omega (arith, within, suc-mul n size))
 
-pub pages_sized : (file : File) → file.usable ≤ file.size → AreSized (page_in file) file.usable
-pages_sized file fits n page there =
+pub page_inside : (file : File) (n : ℕ) (page : List ℕ) → page_in file n ≡ Some page
+    → (1 ≤ n) × (n * file.size ≤ length file.bytes) × (take file.usable (drop ((n - 1) * file.size) file.bytes) ≡ page)
+page_inside file n page there =
     elim (chosen (nat_le 1 n && nat_le (n * file.size) (length file.bytes)) _ _ _ there) [
       | inl inside ↦
           let within = (Decides-and _ _ (Decides-leb 1 n) (Decides-leb (n * file.size) (length file.bytes))).0 inside.0 in
-          let rest = drop ((n - 1) * file.size) file.bytes in
-          let enough = room n file.size (length file.bytes) within.0 within.1 in
-          ap length (sym (some_same _ _ inside.1))
-          ∙ length-take-le file.usable rest (omega (arith, fits, length-drop ((n - 1) * file.size) file.bytes, enough))
+          (within.0, within.1, some_same _ _ inside.1)
       | inr outside ↦ absurd (none_some page outside.1)
     ]
+
+pub pages_sized : (file : File) → file.usable ≤ file.size → AreSized (page_in file) file.usable
+pages_sized file fits n page there =
+    let inside = page_inside file n page there in
+    let rest = drop ((n - 1) * file.size) file.bytes in
+    let enough = room n file.size (length file.bytes) inside.0 inside.1 in
+    ap length (sym inside.2)
+    ∙ length-take-le file.usable rest (omega (arith, fits, length-drop ((n - 1) * file.size) file.bytes, enough))
+
+pub page_number_fits : (file : File) (n : ℕ) (page : List ℕ) → 0 < file.size → page_in file n ≡ Some page → (0 < n) × (n ≤ length file.bytes / file.size)
+page_number_fits file n page size there =
+    let inside = page_inside file n page there in
+    (inside.0, (le-div_iff_mul-le size).1 inside.1)

@@ -19,7 +19,7 @@ use Rattle.law_wcdb.specs.Trees.{IsTreeWithin, items_within, IsWholeChain, IsWho
 use Rattle.law_wcdb.proofs.ChainReads.{page_there}
 use Rattle.law_wcdb.proofs.TreeReads.{items_of_leaf, items_of_interior}
 
-abbrev table_form : ℕ → (Item → Item → Bool) → Form
+abbrev pub table_form : ℕ → (Item → Item → Bool) → Form
 table_form usable order = record { tree = Table; usable = usable; order = order }
 
 fan_same : (first second : Form) (P : ℕ → Type 0) (f g : ℕ → List Item) → cell_item first false ≡ cell_item second false → ((n : ℕ) → P n → f n ≡ g n)
@@ -34,11 +34,11 @@ each_child P Q so [] last all = so last all
 each_child P Q so (cell ∷ cells) last all = (so (cell_child cell) all.0, each_child P Q so cells last all.1)
 
 -- a page of the tree is the file's
-node_there : (part : Part) (pages : PageMap) → IsPartOf part pages → (form : Form) (leaf : Bool) (n : ℕ) → IsNode form leaf part n → all_pages pages n
+pub node_there : (part : Part) (pages : PageMap) → IsPartOf part pages → (form : Form) (leaf : Bool) (n : ℕ) → IsNode form leaf part n → all_pages pages n
     ≡ part n
 node_there part pages laid form leaf n node = page_there pages n (part n) (laid n (node_live node))
 
-node_read : (usable : ℕ) (order : Item → Item → Bool) (part : Part) (pages : PageMap) → IsPartOf part pages → (leaf : Bool) (n : ℕ)
+pub node_read : (usable : ℕ) (order : Item → Item → Bool) (part : Part) (pages : PageMap) → IsPartOf part pages → (leaf : Bool) (n : ℕ)
     → IsNode (table_form usable order) leaf part n → IsNode (unordered Table usable) leaf (all_pages pages) n
 node_read usable order part pages laid leaf n node =
     let there = node_there part pages laid (table_form usable order) leaf n node in

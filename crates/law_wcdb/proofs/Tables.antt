@@ -13,11 +13,12 @@ use Rattle.sqlite_btree.proofs.StoredLemmas.{entries_at-stored}
 use Rattle.svn_wcdb.specs.declared.fault.Reason.{Reason}
 use Rattle.svn_wcdb.specs.Images.{File, image_of, page_in}
 use Rattle.svn_wcdb.specs.Tables.{Rows, tree_after, table_rows}
-use Rattle.law_wcdb.specs.Laws.{HasPages, IsTableRead, Row, table_items, stored_tables_are_trees, shown, rows_read, rows_among, tables_are_trees, trees_are_read, stored_rows_are_read}
+use Rattle.law_wcdb.specs.Laws.{HasPages, IsTableRead, Row, table_items, stored_tables_are_trees, stored_tables_are_read, shown, rows_read, rows_among, tables_are_trees, trees_are_read, stored_rows_are_read}
 use Rattle.law_wcdb.proofs.Choices.{ok_same, bound_ok}
 use Rattle.law_wcdb.proofs.Pages.{usable_fits, pages_sized}
 use Rattle.law_wcdb.proofs.TreeReads.{tree_read}
 use Rattle.law_wcdb.proofs.TreeFaults.{tree_fault}
+use Rattle.law_wcdb.proofs.PageCounts.{stored_fits}
 use Rattle.law_wcdb.proofs.StoredReads.{IsReadAs, tree_read_as, items_whole}
 
 pub tables_read : tables_are_trees
@@ -96,3 +97,8 @@ is_read bytes file root rows image is few = go (tree_after (page_in file) file.u
 pub trees_read : trees_are_read
 trees_read bytes file root rows image =
     (λ read. (tables_read bytes file root rows image read, few_pages bytes file root rows image read), λ both. is_read bytes file root rows image both.0 both.1)
+
+pub stored_all_read : stored_tables_are_read
+stored_all_read bytes file root stored layout image laid table records =
+    (trees_read bytes file root stored image).1
+    (stored_trees (page_in file) file.usable root stored layout laid table records, stored_fits bytes file root stored layout image laid table)

@@ -69,3 +69,9 @@ abbrev pub stored_tables_are_trees : Type 0
 stored_tables_are_trees =
     (pages : PageMap) (usable root : ℕ) (stored : List Row) (layout : Layout) → IsLaidIn layout pages → IsTable usable layout root stored
     → Each (λ (row : Row). IsRecord row.1) stored → IsTableRead (all_pages pages) usable root stored
+
+-- and its pages are no two the same, so all of it is read
+abbrev pub stored_tables_are_read : Type 0
+stored_tables_are_read =
+    (bytes : List ℕ) (file : File) (root : ℕ) (stored : List Row) (layout : Layout) → image_of bytes ≡ Ok file → IsLaidIn layout (page_in file)
+    → IsTable file.usable layout root stored → Each (λ (row : Row). IsRecord row.1) stored → rows_read file root ≡ Ok stored

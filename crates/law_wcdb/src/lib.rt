@@ -5,13 +5,14 @@
 //! - [`tables_are_trees`]: where a table is read, its pages are a tree of well-formed pages, and the rows are those of its leaves, in their order and
 //!   with their overflow pages. The tree is `IsTreeWithin` of `specs/Trees.antt`: the kit's, but for what the reader doesn't test.
 //! - [`trees_are_read`]: the rows of such a tree are read exactly if it takes no more pages than the file has (`HasPages`).
-//! - [`stored_tables_are_trees`], [`stored_rows_are_read`]: a table of records by the kit's `IsTable` is such a tree, and no other rows are read of it.
+//! - [`stored_tables_are_read`]: a table of records by the kit's `IsTable` is read, row by row. It is such a tree ([`stored_tables_are_trees`]), whose
+//!   pages are no two the same; and of no table by it other rows are read ([`stored_rows_are_read`]).
 //!
 //! What the reader doesn't test: that all leaves are equally deep, that a page below the root has a cell and isn't page 1, that rows ascend, that no page
 //! is there twice, that a payload's length takes at most eight bytes and is below 2^31.
 #![tactic(auto)]
 
-ghost use Rattle.law_wcdb.specs.Laws.{stored_rows_are_read, stored_tables_are_trees, tables_are_trees, trees_are_read};
+ghost use Rattle.law_wcdb.specs.Laws.{stored_rows_are_read, stored_tables_are_read, stored_tables_are_trees, tables_are_trees, trees_are_read};
 
 /// The rows that are read are those of a tree of well-formed pages.
 pub fn tables_are_trees()
@@ -31,4 +32,9 @@ pub fn stored_rows_are_read()
 /// A table by `sqlite_btree`, of records, is such a tree.
 pub fn stored_tables_are_trees()
     ensures { stored_tables_are_trees }
+{}
+
+/// All of its rows are read.
+pub fn stored_tables_are_read()
+    ensures { stored_tables_are_read }
 {}
