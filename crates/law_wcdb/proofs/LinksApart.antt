@@ -32,7 +32,9 @@ some_list spill usable fuel page left some = cond-false _ _ _ (ne_eqb left 0 (λ
 in_chain : (spill : Part) (usable fuel page left n : ℕ) → IsIn n (chain_list spill usable fuel page left) → IsOnChain spill usable fuel page left n
 in_chain spill usable zero page left n at = at
 in_chain spill usable (suc fuel) page left n at = elim (cases_lt 0 left) [
-  | inl some ↦ (some, elim (subst (IsIn n) (some_list spill usable fuel page left some) at) [ inl e ↦ inl e | inr more ↦ inr (in_chain spill usable fuel _ _ n more) ])
+  | inl some ↦
+      let here = subst (IsIn n) (some_list spill usable fuel page left some) at in
+      (some, elim here [ inl e ↦ inl e | inr more ↦ inr (in_chain spill usable fuel _ _ n more) ])
   | inr none ↦ absurd (subst (IsIn n) (no_list spill usable (suc fuel) page left (omega (arith, none))) at)
 ]
 
@@ -92,7 +94,8 @@ chain_none_twice layout usable row size (suc fuel) page left (inr link) =
     let rest = left - min (usable - 4) left in
     let back : IsIn page (chain_list layout.spill usable fuel next rest) → ⊥ = λ at.
     let there = from_page layout usable row fuel next rest page link.4 (in_chain layout.spill usable fuel next rest page at) in
-    omega (arith, size, link.0, there.fewer, there.some, same_links layout usable row (suc fuel) there.fuel page left there.rest size here there.chain there.some) in
+    let again = same_links layout usable row (suc fuel) there.fuel page left there.rest size here there.chain there.some in
+    omega (arith, size, link.0, there.fewer, there.some, again) in
     subst NoneTwice (sym (some_list layout.spill usable fuel page left link.0)) (back, chain_none_twice layout usable row size fuel next rest link.4)
 
 chain_count : (layout : Layout) (pages : PageMap) (usable : ℕ) (row : List ℕ) → 0 < usable → IsPartOf layout.spill pages → (fuel page left : ℕ)
@@ -153,7 +156,8 @@ links_none_twice layout usable order size strict (item true body ∷ xs) up chai
     let mine = on_chain_owned layout usable body _ _ _ n (chains.0 refl).chain (in_chain layout.spill usable _ _ _ n p) in
     let other = in_links layout usable xs n chains.1 q in
     let same : body ≡ other.row = sym mine.1 ∙ other.owned in
-    strict (item true body) (Each-in (λ y. order (item true body) y ≡ true) xs (item true body) up.0 (subst (λ b. IsIn (item true b) xs) (sym same) other.among)))
+    let x = item true body in
+    strict x (Each-in (λ y. order x y ≡ true) xs x up.0 (subst (λ b. IsIn (item true b) xs) (sym same) other.among)))
 
 pub row_count : (layout : Layout) (pages : PageMap) (usable : ℕ) (row : List ℕ) → 0 < usable → IsPartOf layout.spill pages → HasChain Table usable layout row
     → row_pages (all_pages pages) usable row ≡ length (row_links layout.spill usable row)

@@ -47,7 +47,8 @@ abbrev tree_pages : Layout → ℕ → Form → ℕ → ℕ → ℕ
 tree_pages layout usable form h n = length (nodes_of form layout.nodes h n) + length (links_of layout.spill usable (tree_items form layout.nodes h n))
 
 fan_count : (layout : Layout) (usable : ℕ) (order : Item → Item → Bool) (h : ℕ) (count : ℕ → ℕ)
-    → ((c : ℕ) → IsTree (table_form usable order) layout.nodes h c → Each (HasChains layout usable) (tree_items (table_form usable order) layout.nodes h c) → count c ≡ tree_pages layout usable (table_form usable order) h c)
+    → ((c : ℕ) → IsTree (table_form usable order) layout.nodes h c
+    → Each (HasChains layout usable) (tree_items (table_form usable order) layout.nodes h c) → count c ≡ tree_pages layout usable (table_form usable order) h c)
     → (cells : List (List ℕ)) (last : ℕ) → EachChild (IsTree (table_form usable order) layout.nodes h) cells last
     → Each (HasChains layout usable) (fan_items (table_form usable order) (tree_items (table_form usable order) layout.nodes h) cells last)
     → fan_pages count cells last ≡ length (fan_nodes (nodes_of (table_form usable order) layout.nodes h) cells last)

@@ -120,7 +120,8 @@ nodes_none_twice form part strict (suc h) page top up =
     let cells = cells_of form false part page in
     let last = right_of part page in (
       λ at.
-          let c = some_child (IsTree form part h) (λ c. IsIn page (nodes_of form part h c)) cells last top.1 (in_fan page (nodes_of form part h) cells last at) in
+          let found = in_fan page (nodes_of form part h) cells last at in
+          let c = some_child (IsTree form part h) (λ c. IsIn page (nodes_of form part h c)) cells last top.1 found in
           top_not_below form part (suc h) h page c.0 top refl c.1 (in_nodes form part page h c.0 c.2),
       fan_none_twice form part h strict (nodes_none_twice form part strict h) cells last top.1 up,
     )

@@ -35,15 +35,18 @@ pages n =
     if nat_eq n 2 then root else if nat_eq n 3 then leaf 7 8 else if nat_eq n 4 then narrow else if nat_eq n 5 then leaf 9 9 else []
 
 pub items_in_order : table_items pages 480 2 ≡ item true (2 ∷ 7 ∷ 2 ∷ 8 ∷ []) ∷ item false (7 ∷ []) ∷ item true (2 ∷ 9 ∷ 2 ∷ 9 ∷ []) ∷ []
-unfolding header_of cell_count content_start right_child cell_offset page_cells cell_size cell_body cell_child body_size stored_len local_len varint_len varint_value
+unfolding header_of cell_count content_start right_child cell_offset page_cells cell_size cell_body
+    cell_child body_size stored_len local_len varint_len varint_value
 items_in_order = refl
 
 pub rows_in_order : rows_among pages 480 (table_items pages 480 2) ≡ (pos 7, 2 ∷ 8 ∷ []) ∷ (pos 9, 2 ∷ 9 ∷ []) ∷ []
-unfolding header_of cell_count content_start right_child cell_offset page_cells cell_size cell_body cell_child body_size stored_len local_len varint_len varint_value body_key local_part first_overflow payload_in
+unfolding header_of cell_count content_start right_child cell_offset page_cells cell_size cell_body
+    cell_child body_size stored_len local_len varint_len varint_value body_key local_part first_overflow payload_in
 rows_in_order = refl
 
 pub four_pages : pages_within (unordered Table 480) pages 20 2 ≡ 4
-unfolding header_of cell_count content_start right_child cell_offset page_cells cell_size cell_body cell_child body_size stored_len local_len varint_len varint_value first_overflow
+unfolding header_of cell_count content_start right_child cell_offset page_cells cell_size cell_body
+    cell_child body_size stored_len local_len varint_len varint_value first_overflow
 four_pages = refl
 
 -- whatever height it were to have
