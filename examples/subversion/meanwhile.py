@@ -9,8 +9,7 @@ import subprocess
 import time
 
 SECONDS = 60
-CHANGED = "the working copy is in use"
-JOURNAL = "the database has a journal: a client is at work, or was cut off, and `svn cleanup` comes first"
+IN_USE = "the working copy is in use"
 
 
 def sql(text):
@@ -34,11 +33,11 @@ def another(folder):
 
 # what is done meanwhile, and how the refusal ends, if there is one
 CASES = [("nothing", lambda folder: None, None),
-         ("a lock comes", sql("insert into wc_lock values (1, '', -1)"), CHANGED),
-         ("a lock comes and goes", sql("insert into wc_lock values (1, '', -1); delete from wc_lock"), CHANGED),
-         ("a revision changes", sql("update nodes set revision = revision - 1 where local_relpath = 'one'"), CHANGED),
-         ("another database", another, CHANGED),
-         ("a journal", journal, JOURNAL)]
+         ("a lock comes", sql("insert into wc_lock values (1, '', -1)"), IN_USE),
+         ("a lock comes and goes", sql("insert into wc_lock values (1, '', -1); delete from wc_lock"), IN_USE),
+         ("a revision changes", sql("update nodes set revision = revision - 1 where local_relpath = 'one'"), IN_USE),
+         ("another database", another, IN_USE),
+         ("a journal", journal, IN_USE)]
 
 
 def opened(path, program):
