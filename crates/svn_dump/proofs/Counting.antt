@@ -1,6 +1,6 @@
 -- What is taken of a reader is counted.
-use Rattle.std.proofs.Common.{◌≡◌, ℕ, ◌+◌, ◌-◌, ◌≤◌, ◌^◌, List, [], ◌∷◌, ◌++◌, length, take, length-append, length-take-le, Bool, true, false, cond, ◌&&◌, ◌||◌, not, nat_eq, Option, Some, None, Result, Ok, Err, refl, sym, ap, subst, ◌∙◌, min, arith}
-use Rattle.std.specs.Io.KnownBytes.{Consumes, Keeps}
+use Rattle.std.proofs.Common.{◌≡◌, ℕ, ◌+◌, ◌-◌, ◌≤◌, ◌^◌, List, [], ◌∷◌, ◌++◌, length, take, drop, take-append-drop, append_assoc, length-append, length-take-le, Bool, true, false, cond, ◌&&◌, ◌||◌, not, nat_eq, Option, Some, None, Result, Ok, Err, refl, sym, ap, subst, ◌∙◌, min, arith}
+use Rattle.std.specs.Io.KnownBytes.{Consumes, Keeps, prepend_known}
 use Rattle.svn_dump.specs.declared.fault.Reason.{Reason}
 use Rattle.svn_dump.specs.declared.fault.Reason.TheVariants.{HeadersTooLong}
 use Rattle.svn_dump.specs.declared.fault.DumpFault.{DumpFault}
@@ -10,6 +10,21 @@ use Rattle.svn_dump.specs.Reading.{Reads}
 use Rattle.svn_dump.specs.Blocks.{headers_at, block_at, with_front, is_line_feed, is_space}
 use Rattle.svn_dump.specs.Counts.{OfAll, Counts, Grows}
 use Rattle.svn_dump.specs.Readers.{UnlessBroken, headers_len, found_headers, after_headers, Shows}
+
+-- bytes are taken of a buffer before what is known
+pub taken_ahead : (n : ℕ) (unseen then_unseen : Bool) (buffer after : List ℕ) (known then_known : Option (List ℕ)) → then_unseen ≡ unseen
+    → then_known ≡ known → after ≡ drop n buffer
+    → Consumes (cond unseen None (prepend_known buffer known)) (cond then_unseen None (prepend_known after then_known)) (take n buffer)
+taken_ahead n unseen then_unseen buffer after known then_known same_unseen same_known e =
+    rw (same_unseen, same_known) (by unseen known)
+  where
+    by : (unseen : Bool) (known : Option (List ℕ))
+        → Consumes (cond unseen None (prepend_known buffer known)) (cond unseen None (prepend_known after known)) (take n buffer)
+    by true known = tt
+    by false None = tt
+    by false (Some bytes) =
+        ap (λ l. l ++ bytes) (sym (take-append-drop n buffer)) ∙ append_assoc (take n buffer) (drop n buffer) bytes
+        ∙ ap (λ l. take n buffer ++ (l ++ bytes)) (sym e)
 
 -- a read that gave some bytes
 pub one_read : (taken now n : ℕ) (old new : Option (List ℕ)) (buf : List ℕ) → Consumes old new (take n buf) → n ≤ length buf

@@ -1,5 +1,5 @@
 -- What is read off a reader, byte after byte.
-use Rattle.std.proofs.Common.{◌≡◌, ℕ, List, [], ◌∷◌, Option, Some, None, Result, Ok, Err, refl, sym, ap, subst, ◌∙◌}
+use Rattle.std.proofs.Common.{◌≡◌, ℕ, List, [], ◌∷◌, ◌++◌, Option, Some, None, Result, Ok, Err, refl, sym, ap, subst, ◌∙◌}
 use Rattle.std.specs.Io.KnownBytes.{Consumes, IsAtEnd}
 use Rattle.svn_dump.specs.declared.fault.Reason.{Reason}
 use Rattle.svn_dump.specs.declared.fault.DumpFault.{DumpFault}
@@ -52,6 +52,14 @@ goes_on None now new b at next later c h step = tt
 goes_on (Some bytes) None new b at next later c h step = absurd c
 goes_on (Some bytes) (Some rest) None b at next later c h step = absurd h
 goes_on (Some bytes) (Some rest) (Some left) b at next later c h step = c ∙ one_more rest left b next later h step
+
+-- several bytes more were taken
+pub takes_on : {X : Type 0} (old now new : Option (List ℕ)) (front : List ℕ) (at next later : List ℕ → X) → Continues old now at next
+    → Consumes now new front → ((bs : List ℕ) → next (front ++ bs) ≡ later bs) → Continues old new at later
+takes_on None now new front at next later c h step = tt
+takes_on (Some bytes) None new front at next later c h step = absurd c
+takes_on (Some bytes) (Some rest) None front at next later c h step = absurd h
+takes_on (Some bytes) (Some rest) (Some left) front at next later c h step = c ∙ ap next h ∙ step left
 
 pub reads_value : {X Y : Type 0} (view : X → Y) (known : Option (List ℕ)) (x : X) → Reads view known known (Ok x) (λ bs. Ok (view x, bs))
 reads_value view None x = tt

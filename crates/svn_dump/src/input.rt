@@ -1,7 +1,8 @@
 //! Bytes off a reader: one, a record's headers, or so many.
-ghost use Rattle.std.specs.Prelude.{ℕ, List, Option, Bool, true, false, ◌≡◌, ◌≢◌, ◌∷◌, [], ◌<◌, ◌≤◌, ◌+◌, length, take, IsSome, IfOk, IfErr, MatchResult};
+ghost use Rattle.std.specs.Prelude.{ℕ, nat_eq, List, Option, Bool, true, false, ◌&&◌, ◌≡◌, ◌≢◌, ◌∷◌, ◌++◌, [], ◌<◌, ◌≤◌, ◌+◌, length, take, vec_len, IsSome, IfOk, IfErr, MatchOption, MatchResult};
 ghost use Rattle.std.specs.Io.{ReadsAtMost};
-ghost use Rattle.std.specs.Io.Buffered.{reader_remaining};
+ghost use Rattle.std.specs.Io.Buffered.{reader_remaining, reader_buffer};
+ghost use Rattle.std.specs.List.{position_or_len};
 ghost use Rattle.std.specs.Io.KnownBytes.{Consumes, Keeps, IsAtEnd, ReadConsumes};
 ghost use Rattle.svn_dump.specs.Reading.{Reads, FailsWith};
 ghost use Rattle.svn_dump.specs.Counts.{Counts, Grows};
@@ -9,7 +10,8 @@ ghost use Rattle.svn_dump.specs.Blocks.{byte_at, headers_at, block_at, bytes_at,
 
 use crate::fault::{DumpFault, Reason};
 use std::alloc::Global;
-use std::io::{BufReader, Read, Result as IoResult};
+use std::io::{BufRead, BufReader, Read, Result as IoResult};
+use svn_types::split_once;
 
 /// The most bytes that are read at a time.
 pub(crate) const PIECE: usize = 8192;
@@ -25,6 +27,9 @@ pub(crate) trait Input {
     // Whether a read failed so far.
     ghost failed: { Self → Bool };
 
+    // What was read ahead: the front of what is left.
+    ghost ahead: { Self → List ℕ };
+
     /// As `Read::read`.
     fn read(&mut self, buf: &mut [u8]) -> IoResult<usize>
         ensures bound { ReadsAtMost result buf.new }
@@ -33,6 +38,18 @@ pub(crate) trait Input {
         ensures grows { taken self.old ≤ taken self.new }
         ensures grown { IfOk result (λ n. Grows (taken self.old) n (taken self.new)) }
         ensures failed { MatchResult result (λ _. failed self.new ≡ failed self.old) (λ _. failed self.new ≡ true) };
+
+    /// The bytes that were read ahead.
+    fn buffer(&self) -> &[u8]
+        ensures { result.now ≡ ahead self.now };
+
+    /// Takes so many of the bytes that were read ahead.
+    fn consume(&mut self, amount: usize)
+        requires { amount ≤ length (ahead self.old) }
+        ensures bytes { Consumes (remaining self.old) (remaining self.new) (take amount (ahead self.old)) }
+        ensures counted { Counts (taken self.old) (remaining self.old) (taken self.new) (remaining self.new) }
+        ensures grown { Grows (taken self.old) amount (taken self.new) }
+        ensures failed { failed self.new ≡ failed self.old };
 }
 
 /// A reader with a buffer before it, which counts the bytes that were taken from it.
@@ -76,6 +93,8 @@ impl<R: Read> Input for Source<R> {
 
     ghost failed = { λ s. s.failed };
 
+    ghost ahead = { λ s. reader_buffer s.input };
+
     fn read(&mut self, buf: &mut [u8]) -> IoResult<usize> {
         match self.input.read(buf) {
             Ok(count) => {
@@ -88,6 +107,27 @@ impl<R: Read> Input for Source<R> {
             }
         }
     }
+
+    fn buffer(&self) -> &[u8] {
+        self.input.buffer()
+    }
+
+    fn consume(&mut self, amount: usize) {
+        self.input.consume(amount);
+        self.taken = self.taken.saturating_add(amount as u64);
+    }
+}
+
+// Takes the next byte that was read ahead, if there is one.
+fn take_byte<S: Input>(source: &mut S) -> Option<u8>
+    ensures bytes { MatchOption result (S.remaining source.new ≡ S.remaining source.old) (λ b. Consumes (S.remaining source.old) (S.remaining source.new) (b ∷ [])) }
+    ensures counted { Counts (S.taken source.old) (S.remaining source.old) (S.taken source.new) (S.remaining source.new) }
+    ensures taken { MatchOption result (S.taken source.new ≡ S.taken source.old) (λ _. Grows (S.taken source.old) 1 (S.taken source.new)) }
+    ensures failed { S.failed source.new ≡ S.failed source.old }
+{
+    let byte = *source.buffer().first()?;
+    source.consume(1);
+    Some(byte)
 }
 
 // The next byte, if there is one.
@@ -98,6 +138,9 @@ fn read_byte<S: Input>(source: &mut S) -> Result<Option<u8>, DumpFault>
     ensures failed { FailsWith (S.failed source.old) (S.failed source.new) result }
     ensures grown { IfOk result (λ byte. IsSome byte → Grows (S.taken source.old) 1 (S.taken source.new)) }
 {
+    if let Some(byte) = take_byte(source) {
+        return Ok(Some(byte));
+    }
     let mut byte = [0u8; 1];
     match source.read(&mut byte) {
         Ok(0) => Ok(None),
@@ -119,6 +162,49 @@ fn is_line_feed(byte: u8) -> bool
     byte == b'\n'
 }
 
+// How many of these bytes are before the first line feed, at most as many as there is room for.
+fn line_len(bytes: &[u8], room: usize) -> usize
+    ensures line { result ≤ position_or_len is_line_feed bytes.now }
+    ensures within { result ≤ length bytes.now }
+    ensures fits { result ≤ room }
+{
+    let len = match split_once(bytes, b'\n') {
+        Some((line, _)) => line.len(),
+        None => bytes.len(),
+    };
+    len.min(room)
+}
+
+// Takes the bytes that were read ahead up to a line feed, at most as many as there is room for, and returns how many they are.
+fn take_ahead<S: Input>(
+    source: &mut S,
+    block: &mut Vec<u8>,
+    room: usize,
+) -> Result<usize, DumpFault>
+    ensures fits { IfOk result (λ n. n ≤ room) }
+    ensures line { IfOk result (λ n. n ≤ position_or_len is_line_feed (S.ahead source.old)) }
+    ensures kept { IfOk result (λ n. block.new.items ≡ block.old.items ++ take n (S.ahead source.old)) }
+    ensures len { IfOk result (λ n. vec_len block.new ≡ vec_len block.old + n) }
+    ensures bytes { IfOk result (λ n. Consumes (S.remaining source.old) (S.remaining source.new) (take n (S.ahead source.old))) }
+    ensures counted { Counts (S.taken source.old) (S.remaining source.old) (S.taken source.new) (S.remaining source.new) }
+    ensures grows { S.taken source.old ≤ S.taken source.new }
+    ensures failed { S.failed source.new ≡ S.failed source.old }
+    ensures fault { IfErr result (λ e. e ≡ DumpFault.Memory) }
+{
+    let ahead = source.buffer();
+    let count = line_len(ahead, room);
+    block.extend_from_slice(&ahead[..count])?;
+    source.consume(count);
+    Ok(count)
+}
+
+// Whether a line still begins after so many bytes of it.
+fn is_still_fresh(fresh: bool, count: usize) -> bool
+    ensures { result ≡ (fresh && nat_eq count 0) }
+{
+    fresh && count == 0
+}
+
 // Reads the headers whose first byte was read: lines up to the first empty one; nothing of them is kept.
 fn read_headers<S: Input>(
     alloc: Global,
@@ -137,6 +223,9 @@ fn read_headers<S: Input>(
     let mut fresh = false;
     let mut left = room;
     'bytes: loop {
+        let count = take_ahead(source, &mut block, left)?;
+        left -= count;
+        fresh = is_still_fresh(fresh, count);
         let byte = match read_byte(source) {
             Ok(Some(byte)) => byte,
             Ok(None) => return Err(DumpFault::Refused(Reason::CutOff)),
