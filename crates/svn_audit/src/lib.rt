@@ -16,11 +16,15 @@
 #![tactic(auto)]
 
 mod below;
+mod found;
+mod laws;
 mod lines;
 mod reason;
 mod untrue;
 
 pub use below::copy_below;
+pub use found::{Found, reason_of};
+pub use laws::reasons_are_of_places;
 pub use lines::{
     NodeChange, UpdateLine, lines_have_paths_of_calls, no_change_no_line, update_lines,
 };

@@ -26,7 +26,7 @@ mod laws;
 mod pristine;
 mod repository;
 
-pub use auditing::{Audited, Question, audit};
+pub use auditing::{Audited, Question, audit, read_copy};
 pub use examiner::Examiner;
 pub use fault::{AuditFault, PristineFault, PristineRefusal};
 pub use laws::stand_ins_stay;
