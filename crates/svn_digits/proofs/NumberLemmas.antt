@@ -6,7 +6,7 @@ use Rattle.svn_lists.proofs.Options.{cond_none}
 use Rattle.svn_digits.specs.Numbers.{decimal_from, fitting}
 
 -- more digits never make a number smaller
-decimal_from_grows : (n : ℕ) (bs : List ℕ) → n ≤ decimal_from n bs
+pub decimal_from_grows : (n : ℕ) (bs : List ℕ) → n ≤ decimal_from n bs
 decimal_from_grows n [] = omega arith
 decimal_from_grows n (b ∷ bs) =
     let more = decimal_from_grows (n * 10 + (b - 48)) bs in

@@ -1,4 +1,4 @@
-//! What dumps and working copies on disk both write in digits: numbers, and the stand-ins of texts.
+//! What dumps, working copies on disk and the wire write in digits: numbers, and the stand-ins of texts.
 //!
 //! [`read_number`] reads a decimal number, as a header of a dump or the length of an atom is. A stand-in is `$sha1$` and the SHA-1 checksum of a
 //! text, as the column `checksum` of a working copy's database has it; it is in place of the text where texts are only compared. [`stand_in_of`]

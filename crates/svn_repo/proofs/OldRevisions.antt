@@ -1,11 +1,11 @@
 -- The revisions that a draft is made over, read from the nodes that have the draft's after them.
 use Rattle.std.proofs.Common.{◌≡◌, ℕ, zero, suc, ◌+◌, ◌-◌, ◌<◌, ◌≤◌, true, false, cond, List, [], ◌∷◌, ◌++◌, length, take, map}
-use Rattle.std.proofs.Common.{get_or, refl, arith, Option, Some, None, subst, sym, ap, ◌∙◌, length-take, inl, inr}
+use Rattle.std.proofs.Common.{refl, arith, Option, Some, None, subst, sym, ap, ◌∙◌, length-take, inl, inr}
 use Rattle.std.specs.Prelude.{nat_lt, nat_le, IsSome}
 use Rattle.std.specs.List.{slice_get}
 use Rattle.std.specs.Option.{option_and_then, option_map, option_or, is_some}
 use Rattle.std.proofs.lemmas.Bool.{cases_lt, lt-ltb, le-ltb, le-leb, lt-leb}
-use Rattle.std.proofs.lemmas.Option.{slice_get-map, slice_get_read, slice_get_within}
+use Rattle.std.proofs.lemmas.Option.{slice_get-map, slice_get_within}
 use Rattle.std.proofs.lemmas.List.{length-map}
 use Rattle.svn_lists.proofs.Options.{and_then_parts, and_then_same}
 use Rattle.svn_lists.proofs.Places.{take_from_places, slice_get-take, slice_get_in}
@@ -206,8 +206,3 @@ fault_is roots heights old mid nodes same size kept l top next c =
     ap (λ (v : List Node). change_fault (past_in (length heights) roots v l) (pending_in (length heights) v top next) c) same
     ∙ ap (λ (h : History). change_fault h (pending_in (length heights) mid top next) c) (past_is roots (length heights) old mid l size kept)
     ∙ ap (λ (b : ℕ). change_fault (history_of roots old l) (pending_in b mid top next) c) size
-
-pub last_root : (roots : List ℕ) (n x : ℕ) → n ≡ length roots → 1 ≤ length roots → x ≡ get_or roots (n - 1) x
-    → slice_get roots (length roots - 1) ≡ Some x
-last_root roots n x e some is = slice_get_read roots (length roots) (length roots - 1) x refl (omega arith)
-    (subst (λ (k : ℕ). x ≡ get_or roots (k - 1) x) e is)

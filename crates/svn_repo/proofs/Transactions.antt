@@ -106,27 +106,26 @@ module _ (base : ℕ) (roots : List ℕ) (nodes : List Node) (lines root next : 
       (roots_below roots (take base nodes) lines o.from o.stored.repository o.last)
 
   -- a fault of the nodes, each read through what holds them, is that of the transaction
-  fault_here : (tops hs : List ℕ) (ns : List Node) → tops ≡ roots → hs ≡ heights → ns ≡ nodes → (l : ℕ) (change : Change)
-      → change_fault (past_in (length hs) tops ns l) (pending_in (length hs) ns root next) change ≡ change_fault
+  fault_here : (hs : List ℕ) (ns : List Node) → hs ≡ heights → ns ≡ nodes → (l : ℕ) (change : Change)
+      → change_fault (past_in (length hs) roots ns l) (pending_in (length hs) ns root next) change ≡ change_fault
       (past_in base roots nodes l) (pending_in base nodes root next) change
-  fault_here tops hs ns tops_are hs_are ns_are l change =
-      ap (λ (r : List ℕ). change_fault (past_in (length hs) r ns l) (pending_in (length hs) ns root next) change) tops_are
-      ∙ ap (λ (v : List Node). change_fault (past_in (length hs) roots v l) (pending_in (length hs) v root next) change) ns_are
+  fault_here hs ns hs_are ns_are l change =
+      ap (λ (v : List Node). change_fault (past_in (length hs) roots v l) (pending_in (length hs) v root next) change) ns_are
       ∙ ap (λ (b : ℕ). change_fault (past_in b roots nodes l) (pending_in b nodes root next) change) (ap length hs_are ∙ height_count)
 
-  module _ (tops hs : List ℕ) (ns : List Node) (tops_are : tops ≡ roots) (hs_are : hs ≡ heights) (ns_are : ns ≡ nodes) (change : Change)
-      (found : Option CommitFault) (told : (l s : ℕ) → found ≡ change_fault (past_in (length hs) tops ns l)
+  module _ (hs : List ℕ) (ns : List Node) (hs_are : hs ≡ heights) (ns_are : ns ≡ nodes) (change : Change)
+      (found : Option CommitFault) (told : (l s : ℕ) → found ≡ change_fault (past_in (length hs) roots ns l)
       (pending_in (length hs) ns root s) change) where
     pub fault_told : (v : OpenRevision) → open_in base roots nodes lines root next ≡ v
         → found ≡ change_fault v.history (pending_of v) change
     fault_told v seen =
-        told lines next ∙ fault_here tops hs ns tops_are hs_are ns_are lines change
+        told lines next ∙ fault_here hs ns hs_are ns_are lines change
         ∙ ap (λ (s : Pending). change_fault (past_in base roots nodes lines) s change)
         (sym (pending_is base roots nodes lines root next o.inside))
         ∙ ap (λ (w : OpenRevision). change_fault w.history (pending_of w) change) seen
 
     pub can_be_made : found ≡ None → (l : ℕ) → change_fault (past_in base roots nodes l) (pending_in base nodes root next) change ≡ None
-    can_be_made none l = sym (told l next ∙ fault_here tops hs ns tops_are hs_are ns_are l change) ∙ none
+    can_be_made none l = sym (told l next ∙ fault_here hs ns hs_are ns_are l change) ∙ none
 
   -- one change more
   module _ (new : List Node) (to after : ℕ) (change : Change) (stays : KeepsOld base nodes new)

@@ -15,6 +15,7 @@ use crate::entries::{Entries, NodeId};
 use crate::heights::add_heights;
 use crate::near::find_near;
 use crate::refusal::fault_of;
+use crate::roots::Roots;
 use crate::store::{
     Content, Draft, Node, Past, PropSetting, Stored, lookup_in, put_child, put_made, put_old,
     put_prop, split_path, thaw_path,
@@ -129,7 +130,7 @@ fn next_line(lines: u64, existed: bool) -> u64
 }
 
 // The node that a copy takes.
-fn source_of(nodes: &[Node], roots: &[NodeId], rev: Rev, names: &[Name]) -> NodeId
+fn source_of(nodes: &[Node], roots: &Roots, rev: Rev, names: &[Name]) -> NodeId
     requires { IsSome (look_in nodes.now roots.now rev names.now) }
     ensures { look_in nodes.now roots.now rev names.now ≡ Some result }
 {
@@ -139,7 +140,7 @@ fn source_of(nodes: &[Node], roots: &[NodeId], rev: Rev, names: &[Name]) -> Node
 /// Makes a change on a draft.
 pub(crate) fn make(
     nodes: &mut Vec<Node>,
-    roots: &[NodeId],
+    roots: &Roots,
     draft: Draft,
     change: &Change,
     near: Option<NodeId>,
@@ -232,13 +233,13 @@ fn make_all(
 
 /// A draft over the last revision, on which no change is made yet.
 pub(crate) fn start_draft(stored: &Stored, lines: u64) -> Draft
-    requires { 1 ≤ length stored.now.roots.items }
+    requires { 1 ≤ length stored.now.roots }
     ensures base { result.base ≡ length stored.now.nodes.items }
-    ensures root { slice_get stored.now.roots.items (length stored.now.roots.items - 1) ≡ Some result.root }
+    ensures root { slice_get stored.now.roots (length stored.now.roots - 1) ≡ Some result.root }
     ensures lines { result.lines ≡ lines }
 {
     let base = stored.nodes.len();
-    let root = stored.roots[stored.roots.len() - 1];
+    let root = stored.roots.last();
     Draft { base, root, lines }
 }
 
@@ -246,10 +247,10 @@ pub(crate) fn start_draft(stored: &Stored, lines: u64) -> Draft
 pub(crate) fn push_root(stored: &mut Stored, root: NodeId) -> Result<(), AllocError>
     requires ordered { IsOrdered stored.old.nodes.items (length stored.old.heights.items) }
     requires known { (n k : ℕ) → slice_get stored.old.heights.items n ≡ Some k → IsHeight (rows stored.old.nodes.items) n k }
-    ensures roots { OnOk result (stored.new.roots.items ≡ stored.old.roots.items ++ root ∷ []) }
+    ensures roots { OnOk result (stored.new.roots ≡ stored.old.roots ++ root ∷ []) }
     ensures heights { OnOk result (AreHeights stored.old.nodes.items stored.new.heights.items) }
     ensures nodes_kept { stored.new.nodes.items ≡ stored.old.nodes.items }
-    ensures roots_kept { OnErr result (stored.new.roots.items ≡ stored.old.roots.items) }
+    ensures roots_kept { OnErr result (stored.new.roots ≡ stored.old.roots) }
     ensures heights_kept { take (length stored.old.heights.items) stored.new.heights.items ≡ stored.old.heights.items }
 {
     add_heights(&stored.nodes, &mut stored.heights)?;
@@ -259,10 +260,10 @@ pub(crate) fn push_root(stored: &mut Stored, root: NodeId) -> Result<(), AllocEr
 
 // Makes the changes in order on a draft over the last revision, puts its root after the others, and returns the next line.
 fn push_revision(stored: &mut Stored, lines: u64, changes: &[Change]) -> Result<u64, CommitFault>
-    requires { IsStored stored.old.roots.items stored.old.nodes.items lines stored.old.heights.items }
-    ensures ok { IfOk result (IsExtended stored.old.roots.items stored.old.nodes.items lines stored.new.roots.items stored.new.nodes.items stored.new.heights.items changes.now) }
-    ensures fault { IfErr result (IsRefused (history_of stored.old.roots.items stored.old.nodes.items lines) changes.now) }
-    ensures roots_kept { OnErr result (stored.new.roots.items ≡ stored.old.roots.items) }
+    requires { IsStored stored.old.roots stored.old.nodes.items lines stored.old.heights.items }
+    ensures ok { IfOk result (IsExtended stored.old.roots stored.old.nodes.items lines stored.new.roots stored.new.nodes.items stored.new.heights.items changes.now) }
+    ensures fault { IfErr result (IsRefused (history_of stored.old.roots stored.old.nodes.items lines) changes.now) }
+    ensures roots_kept { OnErr result (stored.new.roots ≡ stored.old.roots) }
     ensures nodes_kept { OnErr result (KeepsOld (length stored.old.nodes.items) stored.old.nodes.items stored.new.nodes.items) }
     ensures heights_kept { OnErr result (take (length stored.old.nodes.items) stored.new.heights.items ≡ stored.old.heights.items) }
 {
@@ -282,10 +283,10 @@ pub(crate) fn extend(
     lines: u64,
     changes: &[Change],
 ) -> Result<u64, CommitFault>
-    requires { IsStored stored.old.roots.items stored.old.nodes.items lines stored.old.heights.items }
-    ensures ok { IfOk result (IsExtended stored.old.roots.items stored.old.nodes.items lines stored.new.roots.items stored.new.nodes.items stored.new.heights.items changes.now) }
-    ensures fault { IfErr result (IsRefused (history_of stored.old.roots.items stored.old.nodes.items lines) changes.now) }
-    ensures unchanged { OnErr result ((stored.new.nodes.items ≡ stored.old.nodes.items) × (stored.new.roots.items ≡ stored.old.roots.items) × (stored.new.heights.items ≡ stored.old.heights.items)) }
+    requires { IsStored stored.old.roots stored.old.nodes.items lines stored.old.heights.items }
+    ensures ok { IfOk result (IsExtended stored.old.roots stored.old.nodes.items lines stored.new.roots stored.new.nodes.items stored.new.heights.items changes.now) }
+    ensures fault { IfErr result (IsRefused (history_of stored.old.roots stored.old.nodes.items lines) changes.now) }
+    ensures unchanged { OnErr result ((stored.new.nodes.items ≡ stored.old.nodes.items) × (stored.new.roots ≡ stored.old.roots) × (stored.new.heights.items ≡ stored.old.heights.items)) }
 {
     let base = stored.nodes.len();
     match push_revision(stored, lines, changes) {

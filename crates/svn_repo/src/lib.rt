@@ -17,6 +17,7 @@
 //! A repository is three lists: the root of each revision, the nodes, each named by its place, and the height of the tree below each node. A
 //! directory's entries name nodes by number, so revisions share what didn't change, and a copy is one more entry. A commit works on a draft:
 //! new nodes at the end of the list, a root and the next line. Old nodes are never written, so a rollback cuts the lists to their old lengths.
+//! Of a history that begins late, the empty revisions before its first take no memory: `roots` counts them.
 //!
 //! Files: `commit` makes the changes and rolls back; `near` looks up where a change works, once for testing it and for making it; `refusal` says
 //! why a change can't be made, without allocating; `store` copies the nodes on the way to a path (unless they are the draft's own) and puts a new
@@ -44,6 +45,7 @@ mod laws;
 mod near;
 mod refusal;
 mod repo;
+mod roots;
 mod store;
 mod transaction;
 

@@ -12,7 +12,7 @@ ghost use Rattle.svn_repo.specs.Changes.{above_fault, change_fault, copy_fault, 
 
 use crate::change::{Change, CommitFault};
 use crate::entries::NodeId;
-use crate::store::{Node, Past, child, kind_at, root_of};
+use crate::store::{Node, Past, child, kind_at};
 use svn_types::{Kind, MAX_DEPTH, MAX_SIZE, Name, Rev, Text};
 
 // A path below a root.
@@ -262,7 +262,7 @@ fn fault_of_copy(
     if let Some(fault) = fault_of_root(to.names) {
         return Some(fault);
     }
-    let Some(root) = root_of(past.roots, source.rev) else {
+    let Some(root) = past.roots.get(source.rev) else {
         return Some(CommitFault::NoSuchRevision);
     };
     let names = source.names;

@@ -10,6 +10,7 @@ ghost use Rattle.svn_repo.specs.Stored.{row_of};
 use crate::change::{Change, CommitFault};
 use crate::commit::extend;
 use crate::entries::{Entries, NodeId};
+use crate::roots::Roots;
 use crate::store::{Content, Node, Stored, lookup_in};
 use std::alloc::{AllocError, Global};
 use std::marker::Model;
@@ -32,15 +33,14 @@ impl Model for Repo {
 
     ghost use Rattle.svn_repo.specs.Stored.{history_of, IsStored};
 
-    ghost view = { λ r. history_of r.stored.roots.items r.stored.nodes.items r.lines };
+    ghost view = { λ r. history_of r.stored.roots r.stored.nodes.items r.lines };
 
-    ghost invariant = { λ r. IsStored r.stored.roots.items r.stored.nodes.items r.lines r.stored.heights.items };
+    ghost invariant = { λ r. IsStored r.stored.roots r.stored.nodes.items r.lines r.stored.heights.items };
 }
 
-// The one node of revision 0, and its number.
-fn first_root(alloc: Global) -> Result<(Vec<Node>, Vec<NodeId>), AllocError>
-    ensures roots { IfOk result (λ r. r.1.items ≡ 0 ∷ []) }
-    ensures nodes { IfOk result (λ r. map row_of r.0.items ≡ empty_directory 0 ∷ []) }
+// The root of revision 0, which is its one node.
+fn first_node(alloc: Global) -> Result<Vec<Node>, AllocError>
+    ensures { IfOk result (λ v. map row_of v.items ≡ empty_directory 0 ∷ []) }
 {
     let mut nodes = Vec::new(alloc);
     nodes.push(Node {
@@ -48,9 +48,7 @@ fn first_root(alloc: Global) -> Result<(Vec<Node>, Vec<NodeId>), AllocError>
         props: Props::new(alloc),
         content: Content::Listing(Entries::new(alloc)),
     })?;
-    let mut roots = Vec::new(alloc);
-    roots.push(NodeId { index: 0 })?;
-    Ok((nodes, roots))
+    Ok(nodes)
 }
 
 fn first_height(alloc: Global) -> Result<Vec<u8>, AllocError>
@@ -67,10 +65,10 @@ impl Repo {
         ensures ok { IfOk result (λ r. r ≡ new_history) }
         ensures fault { IfErr result (λ e. e ≡ CommitFault.Memory) }
     {
-        let (nodes, roots) = first_root(alloc)?;
+        let nodes = first_node(alloc)?;
         let heights = first_height(alloc)?;
         let stored = Stored {
-            roots,
+            roots: Roots::first(alloc),
             nodes,
             heights,
         };

@@ -10,6 +10,7 @@ ghost use Rattle.svn_repo.specs.Changes.{above_fault, root_fault};
 ghost use Rattle.svn_repo.specs.Drafts.{IsListing, PutsChild, SetsProp, CopiesNode, IsClosedIn, ThawsChild, IsDraft, IsThawed, KeepsOld, IsFound, IsGrafted, IsOld, look_in, old_part, tree_in};
 
 use crate::entries::{Entries, NodeId};
+use crate::roots::Roots;
 use std::alloc::{AllocError, Global};
 use svn_types::{Kind, Name, PropName, Props, Rev, Text};
 
@@ -22,8 +23,7 @@ pub(crate) enum Content {
 /// The stored trees of a repository.
 #[derive(Debug, Drop)]
 pub(crate) struct Stored {
-    // The root node of each revision.
-    pub(crate) roots: Vec<NodeId>,
+    pub(crate) roots: Roots,
     // The nodes of all revisions, each named by its place.
     pub(crate) nodes: Vec<Node>,
     // How deep the tree below each node is, in names.
@@ -33,7 +33,7 @@ pub(crate) struct Stored {
 /// The revisions that a commit is made over: the root of each, and the height of each node that was before the commit.
 #[derive(Clone, Copy, Debug)]
 pub(crate) struct Past<'a> {
-    pub(crate) roots: &'a [NodeId],
+    pub(crate) roots: &'a Roots,
     pub(crate) heights: &'a [u8],
 }
 
@@ -93,23 +93,11 @@ pub(crate) fn node_below(nodes: &[Node], from: NodeId, names: &[Name]) -> Option
     Some(at)
 }
 
-// The root of a revision, if there is such a revision.
-pub(crate) fn root_of(roots: &[NodeId], rev: Rev) -> Option<NodeId>
-    ensures { result ≡ slice_get roots.now rev }
-{
-    roots.get(usize::try_from(rev.0).ok()?).copied()
-}
-
 // The node at a path in a revision.
-pub(crate) fn lookup_in(
-    nodes: &[Node],
-    roots: &[NodeId],
-    rev: Rev,
-    names: &[Name],
-) -> Option<NodeId>
+pub(crate) fn lookup_in(nodes: &[Node], roots: &Roots, rev: Rev, names: &[Name]) -> Option<NodeId>
     ensures { result ≡ look_in nodes.now roots.now rev names.now }
 {
-    let root = root_of(roots, rev)?;
+    let root = roots.get(rev)?;
     node_below(nodes, root, names)
 }
 

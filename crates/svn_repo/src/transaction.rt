@@ -31,19 +31,19 @@ impl Model for Transaction {
 
     ghost Value = { OpenRevision };
 
-    ghost view = { λ t. open_in t.draft.base t.stored.roots.items t.stored.nodes.items t.lines t.draft.root t.draft.lines };
+    ghost view = { λ t. open_in t.draft.base t.stored.roots t.stored.nodes.items t.lines t.draft.root t.draft.lines };
 
-    ghost invariant = { λ t. IsOpen t.draft.base t.stored.roots.items t.stored.nodes.items t.lines t.draft.root t.draft.lines t.stored.heights.items };
+    ghost invariant = { λ t. IsOpen t.draft.base t.stored.roots t.stored.nodes.items t.lines t.draft.root t.draft.lines t.stored.heights.items };
 }
 
 // Gives up the changes made on a draft over that many nodes, and begins another.
 fn give_up(stored: &mut Stored, base: usize, lines: u64) -> Draft
-    requires { 1 ≤ length stored.old.roots.items }
+    requires { 1 ≤ length stored.old.roots }
     ensures nodes { stored.new.nodes.items ≡ take base stored.old.nodes.items }
-    ensures roots { stored.new.roots.items ≡ stored.old.roots.items }
+    ensures roots { stored.new.roots ≡ stored.old.roots }
     ensures heights { stored.new.heights.items ≡ stored.old.heights.items }
     ensures base { result.base ≡ length stored.new.nodes.items }
-    ensures root { slice_get stored.old.roots.items (length stored.old.roots.items - 1) ≡ Some result.root }
+    ensures root { slice_get stored.old.roots (length stored.old.roots - 1) ≡ Some result.root }
     ensures lines { result.lines ≡ lines }
 {
     stored.nodes.truncate(base);

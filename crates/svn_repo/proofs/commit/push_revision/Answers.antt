@@ -15,17 +15,17 @@ make_all-requires-clause-draft c = start_draft _ _ _ _ c.requires.repository c.s
 
 pub make_all-requires-clause-past : goal.make_all-requires-clause-past
 make_all-requires-clause-past c =
-    rw (c.deref.ensures.value, c.deref-2.ensures.value)
+    rw c.deref.ensures.value
     (start_past _ _ c.args.lines _ c.requires.repository c.start_draft-start.ensures.root _ c.requires.known)
 
 pub returns-in_err-made-clause-fault : goal.returns-in_err-made-clause-fault
 returns-in_err-made-clause-fault c =
-    let roots = c.args.stored.now.roots.items in
+    let roots = c.args.stored.now.roots in
     let old = c.args.stored.now.nodes.items in
     let from = c.start_draft-start.result.root in
     let h = history_of roots old c.args.lines in
     let told : AreRefused h (pending_in (length old) old from c.args.lines) c.args.changes.now c.in_err-made.field-0.0 =
-    rw (c.deref.ensures.value, c.start_draft-start.ensures.lines) at c.in_err-made.ensures.err in
+    rw c.start_draft-start.ensures.lines at c.in_err-made.ensures.err in
     let refused : IsRefused h c.args.changes.now c.in_err-made.field-0.0 =
     subst (λ (s : Pending). AreRefused h s c.args.changes.now c.in_err-made.field-0.0)
     (sym (start_pending roots old c.args.lines from c.requires.repository c.start_draft-start.ensures.root)) told in
@@ -50,7 +50,7 @@ returns-clause-ok c =
     let sound = c.requires.repository in
     let last = c.start_draft-start.ensures.root in
     let kept = c.make_all.ensures.kept in
-    let made = rw (c.deref.ensures.value, c.start_draft-start.ensures.lines) at c.in_ok-made.ensures.ok in
+    let made = rw c.start_draft-start.ensures.lines at c.in_ok-made.ensures.ok in
     rw (c.in_ok-push_root.ensures.roots, c.push_root.ensures.nodes_kept) (
       record { repository = still_sound _ _ _ _ _ _ _ _ sound last made kept; known = c.in_ok-push_root.ensures.heights },
       (
@@ -61,8 +61,8 @@ returns-clause-ok c =
 
 pub returns-in_err-push_root-clause-fault : goal.returns-in_err-push_root-clause-fault
 returns-in_err-push_root-clause-fault c =
-    let made = rw (c.deref.ensures.value, c.start_draft-start.ensures.lines) at c.in_ok-made.ensures.ok in
-    let h = history_of c.args.stored.now.roots.items c.args.stored.now.nodes.items c.args.lines in
+    let made = rw c.start_draft-start.ensures.lines at c.in_ok-made.ensures.ok in
+    let h = history_of c.args.stored.now.roots c.args.stored.now.nodes.items c.args.lines in
     let can = first_of h (latest_pending h) c.args.changes.now (no_fault _ _ _ _ _ _ _ _ c.requires.repository c.start_draft-start.ensures.root
     made c.make_all.ensures.kept) in
     IfErr_returned (λ e. e ≡ Memory) (IsRefused h c.args.changes.now) c.from_residual-in_err-push_root.result

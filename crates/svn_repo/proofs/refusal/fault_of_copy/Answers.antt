@@ -13,8 +13,8 @@ returns c = λ l.
     let not_root : root_fault names ≡ None = sym c.fault_of_root.ensures ∙ c.in_default.is in
     let old = c.requires.past.old in
     let from = copy_fault_from base c.args.past.now.roots.now nodes old.inside c.requires.past.roots_in old.closed l c.args.source.now.rev
-    c.in-Some-root_of.root
-    (tree_in base nodes c.args.to.now.root) c.args.source.now.names.now names (sym c.root_of.ensures ∙ c.in-Some-root_of.is) in
+    c.in-Some-get.root
+    (tree_in base nodes c.args.to.now.root) c.args.source.now.names.now names (sym c.get.ensures ∙ c.in-Some-get.is) in
     c.fault_below_top.ensures base
     ∙ sym (ap (λ o. option_or o (copy_fault (past_in base c.args.past.now.roots.now nodes l)
     (tree_in base nodes c.args.to.now.root) c.args.source.now.rev c.args.source.now.names.now names)) not_root ∙ from)

@@ -8,63 +8,61 @@ use Rattle.svn_repo.proofs.UnansweredFaults.{change_other}
 use Rattle.svn_repo.proofs.transaction.Transaction.change.Goals as goal
 
 pub examine-requires-clause-past : goal.examine-requires-clause-past
-examine-requires-clause-past c = rw (c.deref.ensures.value, c.deref-2.ensures.value, c.deref-3.ensures.value)
+examine-requires-clause-past c = rw (c.deref.ensures.value, c.deref-2.ensures.value)
     (is_past _ _ _ _ _ _ _ c.self.invariant)
 
 pub make-requires-clause-roots_in : goal.make-requires-clause-roots_in
-make-requires-clause-roots_in c = rw c.deref.ensures.value (roots_old _ _ _ _ _ _ _ c.self.invariant)
+make-requires-clause-roots_in c = roots_old _ _ _ _ _ _ _ c.self.invariant
 
 pub returns-in-Err-clause-fault : goal.returns-in-Err-clause-fault
 returns-in-Err-clause-fault c =
     let fault : change_fault c.args.self.now.history (pending_of c.args.self.now) c.args.change.now ≡ Some c.in-Err.fault =
-    sym (fault_told _ _ _ _ _ _ _ c.self.invariant _ _ _ c.deref.ensures.value c.deref-2.ensures.value c.deref-3.ensures.value c.args.change.now
+    sym (fault_told _ _ _ _ _ _ _ c.self.invariant _ _ c.deref.ensures.value c.deref-2.ensures.value c.args.change.now
     (result_err c.examine.result) c.examine.ensures.fault c.args.self.now c.self.view_is) ∙ ap result_err c.in-Err.is in
     inr fault
 
 pub returns-in-Err-clause-memory : goal.returns-in-Err-clause-memory
 returns-in-Err-clause-memory c =
     let fault : change_fault c.args.self.now.history (pending_of c.args.self.now) c.args.change.now ≡ Some c.in-Err.fault =
-    sym (fault_told _ _ _ _ _ _ _ c.self.invariant _ _ _ c.deref.ensures.value c.deref-2.ensures.value c.deref-3.ensures.value c.args.change.now
+    sym (fault_told _ _ _ _ _ _ _ c.self.invariant _ _ c.deref.ensures.value c.deref-2.ensures.value c.args.change.now
     (result_err c.examine.result) c.examine.ensures.fault c.args.self.now c.self.view_is) ∙ ap result_err c.in-Err.is in
     λ e. absurd ((change_other c.args.self.now.history (pending_of c.args.self.now) c.args.change.now).1 (fault ∙ ap Some e))
 
 pub returns-in-Err-clause-never_full : goal.returns-in-Err-clause-never_full
 returns-in-Err-clause-never_full c =
     let fault : change_fault c.args.self.now.history (pending_of c.args.self.now) c.args.change.now ≡ Some c.in-Err.fault =
-    sym (fault_told _ _ _ _ _ _ _ c.self.invariant _ _ _ c.deref.ensures.value c.deref-2.ensures.value c.deref-3.ensures.value c.args.change.now
+    sym (fault_told _ _ _ _ _ _ _ c.self.invariant _ _ c.deref.ensures.value c.deref-2.ensures.value c.args.change.now
     (result_err c.examine.result) c.examine.ensures.fault c.args.self.now c.self.view_is) ∙ ap result_err c.in-Err.is in
     λ e. (change_other c.args.self.now.history (pending_of c.args.self.now) c.args.change.now).0 (fault ∙ ap Some e)
 
 pub returns-in-Err-clause-given_up : goal.returns-in-Err-clause-given_up
 returns-in-Err-clause-given_up c =
     let fault : change_fault c.args.self.now.history (pending_of c.args.self.now) c.args.change.now ≡ Some c.in-Err.fault =
-    sym (fault_told _ _ _ _ _ _ _ c.self.invariant _ _ _ c.deref.ensures.value c.deref-2.ensures.value c.deref-3.ensures.value c.args.change.now
+    sym (fault_told _ _ _ _ _ _ _ c.self.invariant _ _ c.deref.ensures.value c.deref-2.ensures.value c.args.change.now
     (result_err c.examine.result) c.examine.ensures.fault c.args.self.now c.self.view_is) ∙ ap result_err c.in-Err.is in
     λ e. absurd ((change_other c.args.self.now.history (pending_of c.args.self.now) c.args.change.now).1 (fault ∙ ap Some e))
 
 pub returns-in-Ok-make-clause-made : goal.returns-in-Ok-make-clause-made
 returns-in-Ok-make-clause-made c =
-    sym (fault_told _ _ _ _ _ _ _ c.self.invariant _ _ _ c.deref.ensures.value c.deref-2.ensures.value c.deref-3.ensures.value c.args.change.now
+    sym (fault_told _ _ _ _ _ _ _ c.self.invariant _ _ c.deref.ensures.value c.deref-2.ensures.value c.args.change.now
     (result_err c.examine.result) c.examine.ensures.fault c.args.self.now c.self.view_is) ∙ ap result_err c.in-Ok.is
 
 pub returns-in-Err-make-clause-memory : goal.returns-in-Err-make-clause-memory
 returns-in-Err-make-clause-memory c =
-    λ e. sym (fault_told _ _ _ _ _ _ _ c.self.invariant _ _ _ c.deref.ensures.value c.deref-2.ensures.value c.deref-3.ensures.value c.args.change.now
+    λ e. sym (fault_told _ _ _ _ _ _ _ c.self.invariant _ _ c.deref.ensures.value c.deref-2.ensures.value c.args.change.now
     (result_err c.examine.result) c.examine.ensures.fault c.args.self.now c.self.view_is) ∙ ap result_err c.in-Ok.is
 
 pub invariant_of-self : goal.invariant_of-self
 invariant_of-self c =
-    let can = can_be_made _ _ _ _ _ _ _ c.self.invariant _ _ _ c.deref.ensures.value c.deref-2.ensures.value c.deref-3.ensures.value c.args.change.now
+    let can = can_be_made _ _ _ _ _ _ _ c.self.invariant _ _ c.deref.ensures.value c.deref-2.ensures.value c.args.change.now
     (result_err c.examine.result) c.examine.ensures.fault (ap result_err c.in-Ok.is) in
-    let step = rw c.deref.ensures.value at c.in-Ok-make.ensures.ok in
-    rw c.in-Ok-make.ensures.base (is_changed_open _ _ _ _ _ _ _ c.self.invariant _ _ _ _ c.make.ensures.kept can step)
+    rw c.in-Ok-make.ensures.base (is_changed_open _ _ _ _ _ _ _ c.self.invariant _ _ _ _ c.make.ensures.kept can c.in-Ok-make.ensures.ok)
 
 pub returns-in-Ok-make-clause-ok : goal.returns-in-Ok-make-clause-ok
 returns-in-Ok-make-clause-ok c =
-    let can = can_be_made _ _ _ _ _ _ _ c.self.invariant _ _ _ c.deref.ensures.value c.deref-2.ensures.value c.deref-3.ensures.value c.args.change.now
+    let can = can_be_made _ _ _ _ _ _ _ c.self.invariant _ _ c.deref.ensures.value c.deref-2.ensures.value c.args.change.now
     (result_err c.examine.result) c.examine.ensures.fault (ap result_err c.in-Ok.is) in
-    let step = rw c.deref.ensures.value at c.in-Ok-make.ensures.ok in
-    rw (← c.self.view_is, c.in-Ok-make.ensures.base) (is_changed _ _ _ _ _ _ _ c.self.invariant _ _ _ _ c.make.ensures.kept can step)
+    rw (← c.self.view_is, c.in-Ok-make.ensures.base) (is_changed _ _ _ _ _ _ _ c.self.invariant _ _ _ _ c.make.ensures.kept can c.in-Ok-make.ensures.ok)
 
 pub invariant_of-self-in-Err-make : goal.invariant_of-self-in-Err-make
 invariant_of-self-in-Err-make c =

@@ -1,0 +1,10 @@
+pub mod Reading
+pub mod Tokens
+pub mod Items
+pub mod Writing
+pub mod Laws
+pub mod Fields
+pub mod Answers
+pub mod Urls
+pub mod Streams
+pub mod Sessions
