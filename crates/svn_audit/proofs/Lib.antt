@@ -1,5 +1,7 @@
 -- The first reason of a node is there exactly where the test of truth fails.
 pub mod Reasons
+-- The reason of a node of a copy is that by what the history has in its place.
+pub mod PlaceReasons
 -- All untrue nodes of a copy, found one after the other.
 pub mod Audits
 -- What a copy of the nodes below a path has.

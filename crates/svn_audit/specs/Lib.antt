@@ -1,6 +1,7 @@
 pub mod Below
 pub mod Lines
 pub mod NotedLines
+pub mod Places
 pub mod Printing
 pub mod Reasons
 pub mod Untrue

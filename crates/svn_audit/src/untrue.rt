@@ -17,7 +17,7 @@ use svn_types::{Kind, Name, PropName, Props, RelPath, Rev, Text};
 use svn_wc::WorkingCopy;
 
 // The first name, in order, whose value differs. Properties that are the same take no memory.
-fn first_changed(
+pub(crate) fn first_changed(
     alloc: Global,
     props: &Props,
     others: &Props,

@@ -12,25 +12,35 @@ use Rattle.svn_wcdb.specs.Bases.{Base, base_tree_at}
 use Rattle.svn_audit.specs.declared.reason.Untrue.{Untrue}
 use Rattle.svn_audit.specs.Untrue.{untrue_in}
 use Rattle.svn_disk_audit.specs.Pristine.{Store, AreKeptAs}
-use Rattle.svn_disk_audit.specs.Audits.{IsAudit, IsVerdict}
+use Rattle.svn_disk_audit.specs.Audits.{IsCopyOf, IsAudit, IsVerdict}
 
 same_copy : (copy kept : List (Path × BaseNode)) → ((p : Path) → get_in copy p ≡ get_in kept p) → get_in copy ≡ get_in kept
 same_copy copy kept same i p = same p i
 
-pub is_audit : (texts : Texts) (store here : Store) (h : History) (database : List ℕ) (below : Path) (copy : List (Path × BaseNode))
-    (untrue : List Untrue) (base : Base) (kept : List (Path × BaseNode)) → here ≡ store
-    → base_tree_at below database ≡ Ok base → AreKeptAs texts here base.nodes kept → ((p : Path) → get_in copy p ≡ get_in kept p)
+pub is_copy_of : (texts : Texts) (store here : Store) (database : List ℕ) (below : Path) (copy : List (Path × BaseNode)) (base : Base)
+    (kept : List (Path × BaseNode)) → here ≡ store → base_tree_at below database ≡ Ok base → AreKeptAs texts here base.nodes kept
+    → ((p : Path) → get_in copy p ≡ get_in kept p) → IsCopyOf texts store database below copy
+is_copy_of texts store here database below copy base kept looked reads pristine nodes = record {
+  base = base;
+  reads = reads;
+  kept = kept;
+  pristine = subst (λ (s : Store). AreKeptAs texts s base.nodes kept) looked pristine;
+  nodes = nodes;
+}
+
+pub is_audit : (texts : Texts) (store : Store) (h : History) (database : List ℕ) (below : Path) (copy : List (Path × BaseNode))
+    (untrue : List Untrue) → IsCopyOf texts store database below copy
     → untrue ≡ untrue_in h (get_in copy) copy
     → (untrue ≡ [] → IsTrueOf h (get_in copy)) → (IsTrueOf h (get_in copy) → untrue ≡ [])
     → IsAudit texts store h database below copy untrue
-is_audit texts store here h database below copy untrue base kept looked reads pristine nodes all sound complete =
-    let same : get_in copy ≡ get_in kept = same_copy copy kept nodes in
+is_audit texts store h database below copy untrue is all sound complete =
+    let same : get_in copy ≡ get_in is.kept = same_copy copy is.kept is.nodes in
     record {
-      base = base;
-      reads = reads;
-      kept = kept;
-      pristine = subst (λ (s : Store). AreKeptAs texts s base.nodes kept) looked pristine;
-      nodes = nodes;
+      base = is.base;
+      reads = is.reads;
+      kept = is.kept;
+      pristine = is.pristine;
+      nodes = is.nodes;
       all = all;
       none_is_true = λ none. subst (IsTrueOf h) same (sound none);
       true_has_none = λ holds. complete (subst (IsTrueOf h) (sym same) holds);

@@ -1,4 +1,5 @@
 -- The verdict on a working copy, from bytes. What is at a path of it and below is a copy of its own: what the bytes of the database stand for there.
+--     IsCopyOf texts store database below copy      the copy is that of the database's bytes, its texts pristine
 --     IsAudit texts store h database below copy untrue      the copy is that of the database's bytes, its texts pristine, and these paths of it are untrue of h
 --     IsVerdict texts limits dump store database below untrue      no path is untrue exactly where that copy is true of the dump's history
 --     IsAccepted accepts database below      this holds of what the bytes of the database stand for
@@ -21,6 +22,15 @@ use Rattle.svn_audit.specs.Untrue.{untrue_in}
 use Rattle.svn_disk_audit.specs.declared.fault.AuditFault.{AuditFault}
 use Rattle.svn_disk_audit.specs.declared.fault.AuditFault.TheVariants.{Database, Examiner, Pristine, Copy, Memory}
 use Rattle.svn_disk_audit.specs.Pristine.{Store, AreKeptAs, IsRefusedFile}
+
+pub record IsCopyOf (texts : Texts) (store : Store) (database : List ℕ) (below : Path) (copy : List (Path × BaseNode)) : Type 0 where
+  pub base : Base
+  -- it is what the bytes stand for at the path and below
+  pub reads : base_tree_at below database ≡ Ok base
+  -- its nodes, their texts as they are kept
+  pub kept : List (Path × BaseNode)
+  pub pristine : AreKeptAs texts store base.nodes kept
+  pub nodes : (p : Path) → get_in copy p ≡ get_in kept p
 
 pub record IsAudit (texts : Texts) (store : Store) (h : History) (database : List ℕ) (below : Path) (copy : List (Path × BaseNode))
     (untrue : List Untrue) : Type 0 where

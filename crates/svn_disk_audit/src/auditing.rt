@@ -3,7 +3,7 @@ ghost use Rattle.std.specs.Prelude.{◌≡◌, ℕ, List, Option, None, Some, If
 ghost use Rattle.svn_repo.specs.History.{new_history};
 ghost use Rattle.svn_dump.specs.declared.sections.Limits.{Limits};
 ghost use Rattle.svn_history.specs.Loading.{LoadsDump};
-ghost use Rattle.svn_disk_audit.specs.Audits.{IsAudit, IsVerdict, IsAccepted, IsAuditFault};
+ghost use Rattle.svn_disk_audit.specs.Audits.{IsCopyOf, IsAudit, IsVerdict, IsAccepted, IsAuditFault};
 
 use crate::examiner::Examiner;
 use crate::fault::AuditFault;
@@ -36,11 +36,34 @@ pub struct Audited {
     pub untrue: Vec<Untrue>,
 }
 
-/// Audits the working copy that the bytes of a database stand for, or what of it is at a path and below, as a copy of its own: nothing else of it counts,
-/// and paths are from there. The pristine text of each of its files is read: with [`Texts::Sha1`] each different one once, in pieces of 64 KiB, and with
+/// The working copy that the bytes of a database stand for, or what of it is at a path and below, as a copy of its own: nothing else of it counts, and
+/// paths are from there. The pristine text of each of its files is read: with [`Texts::Sha1`] each different one once, in pieces of 64 KiB, and with
 /// [`Texts::Whole`] each file's, which is kept. Refused as [`read_base_tree_at`] refuses the database, then as the examiner refuses what it has, then at
 /// the first file, in the order of the rows, whose pristine text isn't the one that its stand-in names, then as [`WorkingCopy::from_nodes`] refuses the
 /// nodes: BadRoot where the copy has no directory at the path. Memory where an allocation failed.
+pub fn read_copy<E: Examiner>(
+    alloc: Global,
+    texts: Texts,
+    below: &RelPath,
+    database: &[u8],
+    examiner: &mut E,
+) -> Result<WorkingCopy, AuditFault<E::Fault>>
+    ensures copy { IfOk result (λ w. IsCopyOf texts (E.text_at examiner.old) database.now below.now w) }
+    // the examiner took what the bytes of the database stand for
+    ensures accepted { OnOk result (IsAccepted (E.accepts examiner.old) database.now below.now) }
+    ensures fault { IfErr result (IsAuditFault texts (E.text_at examiner.old) database.now below.now) }
+{
+    let tree = read_base_tree_at(alloc, below, database)?;
+    if let Err(fault) = examiner.examine(&tree) {
+        return Err(AuditFault::Examiner(fault));
+    }
+    let nodes = keep_texts(alloc, texts, examiner, tree.nodes)?;
+    let copy = WorkingCopy::from_nodes(alloc, nodes)?;
+    Ok(copy)
+}
+
+/// Audits the working copy that the bytes of a database stand for, or what of it is at a path and below: read and refused as [`read_copy`] does it, then
+/// compared with the history by [`untrue_paths`].
 pub fn audit<E: Examiner>(
     alloc: Global,
     question: Question<'_>,
@@ -54,12 +77,7 @@ pub fn audit<E: Examiner>(
     // where the repository is the history of a dump, it is the verdict on these bytes
     ensures whole { IfOk result (λ a. (limits : Limits) (dump : List ℕ) → LoadsDump limits question.entry.texts (Some dump) new_history question.entry.repo.now → IsVerdict question.entry.texts limits dump (E.text_at examiner.old) database.now question.entry.below.now a.untrue.items) }
 {
-    let tree = read_base_tree_at(alloc, question.below, database)?;
-    if let Err(fault) = examiner.examine(&tree) {
-        return Err(AuditFault::Examiner(fault));
-    }
-    let nodes = keep_texts(alloc, question.texts, examiner, tree.nodes)?;
-    let copy = WorkingCopy::from_nodes(alloc, nodes)?;
+    let copy = read_copy(alloc, question.texts, question.below, database, examiner)?;
     let untrue = untrue_paths(alloc, question.repo, &copy)?;
     Ok(Audited { copy, untrue })
 }

@@ -15,7 +15,7 @@
 //! pristine text, which was read and has the SHA-1 checksum of the database; texts are kept whole or as stand-ins on both sides, and stand-ins are then
 //! those of the database ([`stand_ins_stay`]). The database is refused as `svn_wcdb` defines it, and a pristine text only where it is a file's, and has another checksum or can't be read (`fault`). It is for a program to
 //! find the files: an [`Examiner`] is asked before the copy is made, and opens the pristine texts; of a copy that is audited it took what the database
-//! has (`accepted`). [`compare_repository`] refuses a copy of another repository than the dump's.
+//! has (`accepted`). [`read_copy`] reads a copy in the same way, and compares it with nothing. [`compare_repository`] refuses a copy of another repository than the dump's.
 #![tactic(auto)]
 
 mod auditing;
@@ -26,7 +26,7 @@ mod laws;
 mod pristine;
 mod repository;
 
-pub use auditing::{Audited, Question, audit};
+pub use auditing::{Audited, Question, audit, read_copy};
 pub use examiner::Examiner;
 pub use fault::{AuditFault, PristineFault, PristineRefusal};
 pub use laws::stand_ins_stay;

@@ -1,14 +1,12 @@
-use Rattle.svn_wcdb.specs.Bases.{seen_base}
 use Rattle.svn_disk_audit.specs.Audits.{IsAudit}
 use Rattle.svn_disk_audit.proofs.Verdicts.{is_audit, is_verdict}
 use Rattle.svn_disk_audit.proofs.auditing.audit.Goals as goal
 
 pub returns-clause-audit : goal.returns-clause-audit
 returns-clause-audit g c =
-    is_audit c.args.question.texts (g.E.Examiner.text_at c.args.examiner.now) (g.E.Examiner.text_at c.examine.new.self) c.args.question.repo.now
-    c.args.database.now c.args.question.below.now c.in_ok-copy.copy c.in_ok-untrue.untrue.items (seen_base c.in_ok-tree.tree)
-    c.in_ok-nodes.nodes.items c.examine.ensures.same c.in_ok-tree.ensures c.in_ok-nodes.ensures.kept c.in_ok-copy.ensures.nodes
-    c.in_ok-untrue.ensures.untrue c.in_ok-untrue.ensures.is_true c.in_ok-untrue.ensures.true_is_empty
+    is_audit c.args.question.texts (g.E.Examiner.text_at c.args.examiner.now) c.args.question.repo.now c.args.database.now c.args.question.below.now
+    c.in_ok-copy.copy c.in_ok-untrue.untrue.items c.in_ok-copy.ensures.copy c.in_ok-untrue.ensures.untrue c.in_ok-untrue.ensures.is_true
+    c.in_ok-untrue.ensures.true_is_empty
 
 pub returns-clause-whole : goal.returns-clause-whole
 returns-clause-whole g c = λ limits dump loads.
@@ -17,7 +15,6 @@ returns-clause-whole g c = λ limits dump loads.
     let copy = c.in_ok-copy.copy in
     let found = c.in_ok-untrue.untrue.items in
     let audited : IsAudit question.texts store question.repo.now c.args.database.now question.below.now copy found =
-    is_audit question.texts store (g.E.Examiner.text_at c.examine.new.self) question.repo.now c.args.database.now question.below.now copy found
-    (seen_base c.in_ok-tree.tree) c.in_ok-nodes.nodes.items c.examine.ensures.same c.in_ok-tree.ensures c.in_ok-nodes.ensures.kept c.in_ok-copy.ensures.nodes
+    is_audit question.texts store question.repo.now c.args.database.now question.below.now copy found c.in_ok-copy.ensures.copy
     c.in_ok-untrue.ensures.untrue c.in_ok-untrue.ensures.is_true c.in_ok-untrue.ensures.true_is_empty in
     is_verdict question.texts limits dump store c.args.database.now question.below.now question.repo.now copy found loads audited
