@@ -24,13 +24,11 @@
 //! Files: `parts` has runs of bytes of one class, `token` one token, `item` the tokens of an item, `stream` pieces, `fields` tuples, `answers` what a server
 //! says, `urls` URLs, `writer` writes, `laws` has the laws. The format is `specs/Tokens.antt` and `specs/Items.antt`.
 //!
-//! Promises: what is read is exactly what the format gives, and a refusal the first from left to right: [`Stop::More`] where the bytes may still become
-//! an item, else why they can't, however they go on ([`pieces_change_nothing`]). Of an item there are no more tokens, lists within one another and bytes
+//! Promises: what is read is exactly what the format gives, and a refusal the first from left to right: [`Stop::More`] where the bytes end within an
+//! item that is lawful so far, else why they are none, however they go on ([`pieces_change_nothing`]). Of an item there are no more tokens, lists within one another and bytes
 //! of a string than [`Limits`] says. What was written is read back ([`tokens_are_read_back`], [`items_are_read_back`]), and what is read is one item
 //! ([`items_are_whole`]). The URL of a path is read as that path ([`paths_are_read_back`]). What a side of a connection has written is a function of the bytes that
 //! came, and stays as more come ([`written_stays`]). Only strings, words, the list of an item and what is escaped take memory.
-//!
-//! `svnserve` also takes a list without a space after its `(`, and numbers with more zeros at the front; no client or server is known to write either.
 #![tactic(auto)]
 
 mod answers;
