@@ -113,6 +113,13 @@ impl<'a> Applier<'a> {
         answer
     }
 
+    /// The copy, as the calls so far have left it. It takes no memory.
+    pub fn copy(&self) -> &WorkingCopy
+        ensures { result.now ≡ self.now.copy.now }
+    {
+        self.copy
+    }
+
     /// The path of the file or directory that is open under a token. It takes no memory.
     pub fn open_path(&self, token: Token) -> Option<&RelPath>
         ensures { (w0 : CopyMap) (calls : List Call) → StandsAfter self.now.mode w0 self.now.edit self.now.copy.now calls → list_any is_last calls ≡ false → option_copied result ≡ path_open calls token }
