@@ -1,13 +1,14 @@
 -- What is read of overflow pages and of rows.
 use Rattle.std.proofs.Common.{◌≡◌, inl, inr, ℕ, zero, suc, ◌-◌, ◌<◌, ◌≤◌, min, true, List, [], ◌∷◌, ◌++◌, length, take, drop, Some, Ok, refl, sym, ap, subst, ◌∙◌, arith, append_assoc, append-nil, eqb-true, subst₂, ap₂, pos_of_ne-zero, le_refl}
 use Rattle.std.proofs.Math.Nat.{min_comm}
-use Rattle.std.proofs.lemmas.Bool.{eqb-false, cond-true, cond-false, eq-eqb, ne_eqb}
+use Rattle.std.proofs.lemmas.Bool.{eqb-false, cond-true, cond-false, eq-eqb, ltb-true, ne_eqb}
 use Rattle.std.proofs.lemmas.List.{map-append}
 use Rattle.std.specs.Int.{w64, cast_signed}
 use Rattle.std.specs.Prelude.{◌+◌, nat_eq}
 use Rattle.sqlite_pages.specs.PageMap.{PageMap}
 use Rattle.sqlite_format.specs.declared.kind.Tree.TheVariants.{Table}
 use Rattle.sqlite_format.specs.Bytes.{u32_at}
+use Rattle.sqlite_format.specs.Varint.{varint_len}
 use Rattle.sqlite_format.specs.Cell.{local_part, spilled_len, first_overflow}
 use Rattle.sqlite_record.specs.Strict.{IsRecord}
 use Rattle.sqlite_btree.specs.Part.{Part, all_pages}
@@ -16,7 +17,7 @@ use Rattle.sqlite_btree.specs.Chain.{chain_bytes, payload_in, entry_of}
 use Rattle.sqlite_btree.specs.Stored.{as_row}
 use Rattle.sqlite_btree.proofs.ChainLemmas.{bytes_step, bytes_none}
 use Rattle.svn_wcdb.specs.Records.{is_record}
-use Rattle.svn_wcdb.specs.Tables.{Rows, link_after, chain_end, chain_after, payload_of, rowid_of, row_after}
+use Rattle.svn_wcdb.specs.Tables.{Bytes, Rows, link_after, chain_end, chain_after, has_short_length, payload_of, rowid_of, row_after}
 use Rattle.svn_wcdb.proofs.RecordTests.{tells_records}
 use Rattle.law_wcdb.specs.Laws.{shown}
 use Rattle.law_wcdb.specs.Trees.{IsWholeChain, IsWholeRow, chain_pages, row_pages}
@@ -127,7 +128,12 @@ pub payload_read : (pages : PageMap) (usable : ℕ) (row : List ℕ) (spare : �
 unfolding payload_of
 payload_read pages usable row spare bytes rest size sized read =
     chain_read pages usable size sized spare (spilled_len Table usable row) (first_overflow Table usable row) (spilled_len Table usable row)
-    (local_part Table usable row) bytes rest (le_refl _) read
+    (local_part Table usable row) bytes rest (le_refl _) (unless_fault (has_short_length row) _ _ _ read).1
+
+payload_short : (pages : PageMap) (usable : ℕ) (row : List ℕ) (spare : ℕ) (new : Bytes) → payload_of pages usable row spare ≡ Ok new → varint_len row ≤ 8
+unfolding payload_of
+payload_short pages usable row spare new read =
+    omega (arith, ltb-true (varint_len row) 9 (unless_fault (has_short_length row) _ _ _ read).0)
 
 -- one more row
 pub record ReadsRow (pages : Part) (usable : ℕ) (row : List ℕ) (old new : Rows) : Type 0 where
@@ -148,7 +154,11 @@ row_read pages usable row old new size sized read =
     let payload = payload_read pages usable row old.1 found.0.0 found.0.1 size sized found.1 in
     record {
       taken = omega (arith, payload.taken, ap (λ (r : Rows). r.1) (ok_same test.1));
-      whole = record { chain = payload.chain; whole = subst IsRecord payload.bytes ((tells_records found.0.0).0 test.0) };
+      whole = record {
+        short = payload_short pages usable row old.1 found.0 found.1;
+        chain = payload.chain;
+        whole = subst IsRecord payload.bytes ((tells_records found.0.0).0 test.0);
+      };
       rows = sym (ap shown (ok_same test.1)) ∙ shown_one old (rowid_of row) found.0.0 found.0.1
           ∙ ap (λ b. shown old ++ (cast_signed w64 (rowid_of row), b) ∷ []) payload.bytes;
     }

@@ -121,8 +121,10 @@ items_whole order layout pages usable items size laid chained records =
     Each-from (IsWholeItem (all_pages pages) usable) items
     (λ x at is.
     let row = body_of x in
+    let here = Each-in (IsChained (table_form usable order) layout) items x chained at is in
     record {
+      short = here.short;
       chain = chain_whole layout pages usable row size laid (spilled_len Table usable row) (first_overflow Table usable row) (spilled_len Table usable row)
-          (Each-in (IsChained (table_form usable order) layout) items x chained at is).chain;
+          here.chain;
       whole = Each-in (HasRecord (all_pages pages) usable) items x have at is;
     })

@@ -1,10 +1,11 @@
 -- A tree of whole rows is refused only where it takes more pages than the file has.
 use Rattle.std.proofs.Common.{◌≡◌, ◌⊎◌, inl, inr, ℕ, zero, suc, ◌-◌, ◌<◌, Bool, true, false, cond, List, [], ◌∷◌, ◌++◌, length, map, take, drop, min, Option, Some, None, Result, Ok, Err, refl, sym, ap, subst, subst₂, ap₂, ◌+◌, pos_of_ne-zero, ◌∙◌, arith, eqb-true, eq-eqb, ne_eqb}
-use Rattle.std.proofs.lemmas.Bool.{cond-true, cond-false, eqb-false}
+use Rattle.std.proofs.lemmas.Bool.{cond-true, cond-false, eqb-false, lt-ltb}
 use Rattle.std.specs.Prelude.{nat_eq, unwrap_or}
 use Rattle.sqlite_pages.specs.PageMap.{PageMap}
 use Rattle.sqlite_format.specs.declared.kind.Tree.TheVariants.{Table}
 use Rattle.sqlite_format.specs.Bytes.{u32_at}
+use Rattle.sqlite_format.specs.Varint.{varint_len}
 use Rattle.sqlite_format.specs.Cell.{cell_body, cell_child, local_part, spilled_len, first_overflow}
 use Rattle.sqlite_format.specs.Page.{IsPage}
 use Rattle.sqlite_record.specs.Strict.{IsRecord}
@@ -20,7 +21,7 @@ use Rattle.svn_wcdb.specs.declared.fault.Reason.TheVariants.{Loop, BadRecord}
 use Rattle.svn_wcdb.specs.Pages as reader
 use Rattle.svn_wcdb.specs.Reading.{◌>>=◌, each}
 use Rattle.svn_wcdb.specs.Records.{is_record}
-use Rattle.svn_wcdb.specs.Tables.{Bytes, Rows, take_page, link_after, chain_end, chain_after, payload_of, rowid_of, row_after, tree_after}
+use Rattle.svn_wcdb.specs.Tables.{Bytes, Rows, take_page, link_after, chain_end, chain_after, has_short_length, payload_of, rowid_of, row_after, tree_after}
 use Rattle.svn_wcdb.proofs.RecordTests.{tells_records}
 use Rattle.svn_wcdb.proofs.TreeLemmas.{page_at}
 use Rattle.law_wcdb.specs.Trees.{IsTreeWithin, items_within, pages_within, fan_pages, row_pages, chain_pages, IsWholeChain, IsWholeRow, IsWholeItem}
@@ -104,7 +105,8 @@ payload_fault : (pages : PageMap) (usable : ℕ) (row : List ℕ) (spare : ℕ) 
 unfolding payload_of
 payload_fault pages usable row spare fault size is read =
     chain_fault pages usable size spare (spilled_len Table usable row) (first_overflow Table usable row) (spilled_len Table usable row)
-    (local_part Table usable row) fault is.chain read
+    (local_part Table usable row) fault is.chain
+    (sym (cond-true (has_short_length row) _ _ (lt-ltb (varint_len row) 9 (omega (arith, is.short)))) ∙ read)
 
 row_fault : (pages : PageMap) (usable : ℕ) (row : List ℕ) (old : Rows) (fault : Reason) → 4 < usable → AreSized pages usable
     → IsWholeRow (all_pages pages) usable row

@@ -3,9 +3,10 @@
 --     items_within form pages levels page      its items, as `tree_items`
 --     pages_within form pages levels page      how many pages it and its rows' payloads take, each as often as it is there
 --     IsWholeChain pages usable fuel page left      the `left` bytes from this page on are there, as `IsChain`, whoever else has its pages
-use Rattle.std.specs.Prelude.{◌≡◌, ◌⊎◌, ℕ, zero, suc, ◌+◌, ◌-◌, ◌<◌, min, true, false, List, [], ◌∷◌, length, map, sum_by, slice_index, nat_eq, if◌then◌else◌}
+use Rattle.std.specs.Prelude.{◌≡◌, ◌⊎◌, ℕ, zero, suc, ◌+◌, ◌-◌, ◌<◌, ◌≤◌, min, true, false, List, [], ◌∷◌, length, map, sum_by, slice_index, nat_eq, if◌then◌else◌}
 use Rattle.sqlite_format.specs.declared.kind.Tree.TheVariants.{Table}
 use Rattle.sqlite_format.specs.Bytes.{u32_at}
+use Rattle.sqlite_format.specs.Varint.{varint_len}
 use Rattle.sqlite_format.specs.Cell.{spilled_len, first_overflow, cell_child}
 use Rattle.sqlite_format.specs.Kinds.{flag_of}
 use Rattle.sqlite_record.specs.Strict.{IsRecord}
@@ -53,8 +54,9 @@ pages_within form pages (suc levels) page =
     then sum_by (λ cell. row_pages pages form.usable (body_of (cell_item form true cell))) (cells_of form true pages page)
     else fan_pages (pages_within form pages levels) (cells_of form false pages page) (right_of pages page))
 
--- a row of a table has all of its bytes, and they are a record
+-- a row of a table has all of its bytes, and they are a record, whose length takes at most eight bytes
 pub record IsWholeRow (pages : Part) (usable : ℕ) (row : List ℕ) : Type 0 where
+  pub short : varint_len row ≤ 8
   pub chain : IsWholeChain pages usable (spilled_len Table usable row) (first_overflow Table usable row) (spilled_len Table usable row)
   pub whole : IsRecord (payload_in Table usable pages row)
 

@@ -9,7 +9,7 @@
 //!   pages are no two the same; and of no table by it other rows are read ([`stored_rows_are_read`]).
 //!
 //! What the reader doesn't test: that all leaves are equally deep, that a page below the root has a cell and isn't page 1, that rows ascend, that no page
-//! is there twice, that a payload's length takes at most eight bytes and is below 2^31.
+//! is there twice, that a payload's length is below 2^31.
 #![tactic(auto)]
 
 ghost use Rattle.law_wcdb.specs.Laws.{stored_rows_are_read, stored_tables_are_read, stored_tables_are_trees, tables_are_trees, trees_are_read};

@@ -4,10 +4,11 @@
 --     tree_after pages size levels n rows      the rows so far, and those of the tree at page n
 --     table_rows file root      the rows of the table with that root page, in their order
 -- `pages` are what is used of each page, and `size` is how many bytes that are. A table takes no more pages of the file than it has, so `spare` is how many it may still take.
-use Rattle.std.specs.Prelude.{ℕ, zero, suc, ◌-◌, ◌/◌, min, true, List, [], ◌∷◌, ◌++◌, length, take, drop, nat_eq, Result, Ok, Err, if◌then◌else◌}
+use Rattle.std.specs.Prelude.{ℕ, zero, suc, ◌-◌, ◌/◌, min, Bool, true, List, [], ◌∷◌, ◌++◌, length, take, drop, nat_eq, nat_lt, Result, Ok, Err, if◌then◌else◌}
 use Rattle.sqlite_pages.specs.PageMap.{PageMap}
 use Rattle.sqlite_format.specs.declared.kind.Tree.TheVariants as trees
 use Rattle.sqlite_format.specs.Bytes.{u32_at}
+use Rattle.sqlite_format.specs.Varint.{varint_len}
 use Rattle.sqlite_format.specs.Cell.{flip_sign, body_key, local_part, spilled_len, first_overflow}
 use Rattle.svn_wcdb.specs.declared.fault.Reason.{Reason}
 use Rattle.svn_wcdb.specs.declared.fault.Reason.TheVariants.{TooDeep, Loop, BadOverflow, BadRecord}
@@ -53,10 +54,16 @@ chain_after pages size (suc spare) n left bytes =
     if nat_eq left 0 then chain_end n bytes (suc spare)
     else link_after pages size n left bytes >>= λ link. chain_after pages size spare link.0 link.1 link.2
 
+-- the length of a row's payload takes at most eight bytes: SQLite reads no longer one
+abbrev pub has_short_length : List ℕ → Bool
+has_short_length row = nat_lt (varint_len row) 9
+
 -- a row's payload: the part in its cell, and then its overflow pages
 unfoldable pub payload_of : PageMap → ℕ → List ℕ → ℕ → Result Bytes Reason
 payload_of pages size row spare =
-    chain_after pages size spare (first_overflow trees.Table size row) (spilled_len trees.Table size row) (local_part trees.Table size row)
+    if has_short_length row
+    then chain_after pages size spare (first_overflow trees.Table size row) (spilled_len trees.Table size row) (local_part trees.Table size row)
+    else Err BadRecord
 
 -- a row's number; a key has its highest bit the other way round
 abbrev pub rowid_of : List ℕ → ℕ

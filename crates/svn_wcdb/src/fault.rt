@@ -68,7 +68,7 @@ pub enum Reason {
     /// A row goes on in a page that isn't there, or in one more than it needs.
     #[error("a row goes on in page {0}, which isn't its own")]
     BadOverflow(u32),
-    /// A row isn't a record.
+    /// A row isn't a record, or the length of its payload takes nine bytes.
     #[error("a row isn't a record")]
     BadRecord,
     /// A table isn't there.

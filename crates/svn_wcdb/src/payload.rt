@@ -3,12 +3,12 @@ ghost use Rattle.std.specs.Prelude.{◌≡◌, ◌+◌, ◌<◌, true, IfOk};
 ghost use Rattle.sqlite_format.specs.Cell.{IsBody};
 ghost use Rattle.svn_wcdb.specs.Reading.{Gives, Answers};
 ghost use Rattle.svn_wcdb.specs.Images.{page_in, seen_file};
-ghost use Rattle.svn_wcdb.specs.Tables.{take_page, link_after, chain_end, chain_after, payload_of};
+ghost use Rattle.svn_wcdb.specs.Tables.{take_page, link_after, chain_end, chain_after, has_short_length, payload_of};
 
 use crate::fault::{Reason, WcdbFault};
 use crate::pages::Image;
 use sqlite_format::bytes::get_u32;
-use sqlite_format::{Tree, cell};
+use sqlite_format::{Tree, cell, varint};
 use std::alloc::Global;
 
 /// Takes one of the pages that a table may still take.
@@ -74,6 +74,18 @@ fn push_chain(
     check_end(number)
 }
 
+// Whether the length of a row's payload takes at most eight bytes. SQLite takes seven bits of a ninth byte where others have eight.
+#[tactic(auto, unfolding(sqlite_format::specs::Cell::body_size))]
+fn has_short_length(row: &[u8], size: usize) -> bool
+    requires { IsBody Tree.Table true size row.now }
+    ensures { result ≡ has_short_length row.now }
+{
+    let Some((_, len)) = varint::get(row) else {
+        unreachable!()
+    };
+    len < varint::MAX_LEN
+}
+
 /// Reads the payload of a row of a table.
 #[tactic(auto, unfolding(crate::specs::Tables::payload_of))]
 pub(crate) fn read_payload(
@@ -85,6 +97,9 @@ pub(crate) fn read_payload(
     requires { IsBody Tree.Table true image.now.usable row.now }
     ensures { Gives (λ bytes. (bytes.items, spare.new)) result (payload_of (page_in (seen_file image.now)) image.now.usable row.now spare.old) }
 {
+    if !has_short_length(row, image.usable) {
+        return Err(WcdbFault::Refused(Reason::BadRecord));
+    }
     let Some(payload) = cell::payload_of(Tree::Table, image.usable, row) else {
         unreachable!()
     };
