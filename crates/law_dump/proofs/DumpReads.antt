@@ -16,9 +16,9 @@ use Rattle.svn_dump.specs.Shapes.{lengths_of}
 use Rattle.svn_dump.specs.Records.{headed_at, record_at, format_at}
 use Rattle.svn_dump.specs.Written.{line, number_line, revision_record, format_record}
 use Rattle.law_dump.specs.Laws.{header_room, written_record, IsWritableRecord, kept_record, kept_records, IsReadAs}
+use Rattle.law_dump.proofs.Lacking.{number_lacks_line_feed}
 use Rattle.law_dump.proofs.HeaderFields.{Field, AreFields, lines, lines_are_headers}
 use Rattle.law_dump.proofs.HeaderBlocks.{block_of_lines, block_none}
-use Rattle.law_dump.proofs.Decimals.{spelled}
 use Rattle.law_dump.proofs.GrammarSections.{cut_whole}
 use Rattle.law_dump.proofs.GrammarReads.{whole_record}
 use Rattle.law_dump.proofs.FieldValues.{value_found, number_at}
@@ -34,7 +34,7 @@ revision_fields rev =
 
 fields_lawful : (rev : ℕ) → rev < 2 ^ 64 → AreFields (revision_fields rev)
 fields_lawful rev small = (
-  record { name = refl; name_line = refl; value = (spelled rev small).no_line_feed },
+  record { name = refl; name_line = refl; value = number_lacks_line_feed rev small },
   (record { name = refl; name_line = refl; value = refl }, (record { name = refl; name_line = refl; value = refl }, tt)),
 )
 
@@ -94,7 +94,7 @@ format_read limits format rest low high room =
     let small : format < 2 ^ 64 = omega (arith, high) in
     let name = codes "SVN-fs-dump-format-version" in
     let field : Field = (name, Some (decimal format)) in
-    let lawful : AreFields (field ∷ []) = (record { name = refl; name_line = refl; value = (spelled format small).no_line_feed }, tt) in
+    let lawful : AreFields (field ∷ []) = (record { name = refl; name_line = refl; value = number_lacks_line_feed format small }, tt) in
     let digits = length-decimal-le 20 format (omega arith) (omega (arith, small)) small in
     let fits : 0 + length (lines (field ∷ [])) ≤ limits.headers =
     omega (arith, room, digits, length-append (decimal format ++ 10 ∷ []) [], length-append (decimal format) (10 ∷ [])) in

@@ -10,7 +10,7 @@ use Rattle.svn_dump.specs.Records.{is_given}
 use Rattle.svn_dump.specs.Shapes.{agreeing}
 use Rattle.law_dump.specs.Laws.{IsSum}
 use Rattle.law_dump.proofs.HeaderFields.{Field, AreFields, lines, given, found, values_of_lines, single_given}
-use Rattle.law_dump.proofs.Decimals.{number_of_decimal}
+use Rattle.svn_digits.proofs.Decimals.{number_of_decimal}
 use Rattle.law_dump.proofs.NodeFields.{flag, both_lengths}
 
 -- the value of a header whose name one field has

@@ -17,7 +17,7 @@ use Rattle.svn_dump.specs.Records.{is_given}
 use Rattle.svn_dump.specs.Written.{action_word}
 use Rattle.law_dump.specs.Grammar.{Header, IsHeader, header_lines, Gives, Says, IsNumber, IsSumOf, IsPathOf, IsKindWord, IsActionWord, IsFlag, IsSourceOf}
 use Rattle.law_dump.proofs.GrammarHeaders.{value_given}
-use Rattle.law_dump.proofs.PathFields.{no_path_fault}
+use Rattle.svn_digits.proofs.PathTexts.{no_path_fault}
 
 module _ (headers : List Header) (are : AllByRecursion IsHeader headers) where
   -- a value that is read where there is one

@@ -1,11 +1,13 @@
 -- Bytes that lack one: what is cut at that byte, where it is first, and bytes that have it.
-use Rattle.std.proofs.Common.{◌≡◌, ◌⊎◌, inl, inr, ℕ, ◌+◌, Bool, true, false, cond, not, List, [], ◌∷◌, ◌++◌, length, take, drop, Option, Some, None, option_and_then, refl, ap, ap₂, ◌∙◌, arith, nat_eq, nat_lt, length-append}
+use Rattle.std.proofs.Common.{◌≡◌, ◌⊎◌, inl, inr, ℕ, ◌+◌, Bool, true, false, cond, not, List, [], ◌∷◌, ◌++◌, length, take, drop, Option, Some, None, option_and_then, refl, sym, true≢false, ap, ap₂, ◌∙◌, ◌^◌, ◌<◌, arith, nat_eq, nat_lt, decimal, length-append}
 use Rattle.std.proofs.Math.Seq.{take-append_seam, drop-append-add}
-use Rattle.std.specs.List.{onto_first, position, position_or_len, slice_split}
-use Rattle.std.proofs.lemmas.Bool.{and_parts, lt-ltb, le-ltb, eqb-true}
+use Rattle.std.specs.List.{list_all, onto_first, position, position_or_len, slice_split}
+use Rattle.std.proofs.lemmas.Bool.{and_from, and_parts, ne_eqb, lt-ltb, le-ltb, eqb-true}
 use Rattle.std.proofs.lemmas.List.Splits.{slice_split-cons_yes, slice_split-cons_no}
 use Rattle.svn_lists.proofs.Somewhere.{list_all_append}
 use Rattle.svn_lists.proofs.Tests.{nat_eq-same}
+use Rattle.svn_digits.specs.Numbers.{is_digit}
+use Rattle.svn_digits.proofs.Decimals.{spelled}
 pub use Rattle.law_dump.specs.Grammar.{lacks}
 
 pub not_true : (b : Bool) → not b ≡ true → b ≡ false
@@ -20,6 +22,17 @@ lacks_parts c b bytes h =
 pub lacks_append : (c : ℕ) (xs ys : List ℕ) → lacks c xs ≡ true → lacks c ys ≡ true → lacks c (xs ++ ys) ≡ true
 lacks_append c xs ys h k = list_all_append (λ b. not (nat_eq b c)) xs ys h k
 
+-- bytes that pass a test which the byte fails
+pub lacks_by : (test : ℕ → Bool) (c : ℕ) (bytes : List ℕ) → test c ≡ false → list_all test bytes ≡ true → lacks c bytes ≡ true
+lacks_by test c [] fails h = refl
+lacks_by test c (b ∷ bytes) fails h =
+    let parts = and_parts (test b) (list_all test bytes) h in
+    let other : nat_eq b c ≡ false = ne_eqb b c (λ same. true≢false (sym parts.0 ∙ ap test same ∙ fails)) in
+    and_from (not (nat_eq b c)) (lacks c bytes) (ap not other) (lacks_by test c bytes fails parts.1)
+
+pub number_lacks_line_feed : (n : ℕ) → n < 2 ^ 64 → lacks 10 (decimal n) ≡ true
+number_lacks_line_feed n small = lacks_by is_digit 10 (decimal n) refl (spelled n small).all_digits
+
 -- the first part of what is cut at a byte that the part hasn't
 pub first_part : (c : ℕ) (part more : List ℕ) → lacks c part ≡ true
     → slice_split (λ b. nat_eq b c) (part ++ c ∷ more) ≡ part ∷ slice_split (λ b. nat_eq b c) more
@@ -27,13 +40,6 @@ first_part c [] more h = slice_split-cons_yes (λ b. nat_eq b c) c more (nat_eq-
 first_part c (b ∷ part) more h =
     let parts = lacks_parts c b part h in
     slice_split-cons_no (λ x. nat_eq x c) b (part ++ c ∷ more) parts.0 ∙ ap (onto_first b) (first_part c part more parts.1)
-
--- what hasn't the byte is one part
-pub one_part : (c : ℕ) (part : List ℕ) → lacks c part ≡ true → slice_split (λ b. nat_eq b c) part ≡ part ∷ []
-one_part c [] h = refl
-one_part c (b ∷ part) h =
-    let parts = lacks_parts c b part h in
-    slice_split-cons_no (λ x. nat_eq x c) b part parts.0 ∙ ap (onto_first b) (one_part c part parts.1)
 
 first_place : (c : ℕ) (part more : List ℕ) → lacks c part ≡ true → position_or_len (λ b. nat_eq b c) (part ++ c ∷ more) ≡ length part
 first_place c [] more h = rw (nat_eq-same c) refl

@@ -8,11 +8,9 @@ pub mod Choices
 pub mod HeaderFields
 -- the bytes of a record, cut into its headers and what is after them
 pub mod HeaderBlocks
--- numbers in decimal digits
-pub mod Decimals
 -- checksums in hexadecimal digits
 pub mod HexSums
--- paths as texts
+-- paths as values of headers
 pub mod PathFields
 -- by the grammar: blank lines and the lines after them
 pub mod GrammarBlocks

@@ -14,9 +14,8 @@ use Rattle.svn_dump.specs.declared.record.TextSection.{TextSection}
 use Rattle.svn_dump.specs.declared.record.TextSection.TheVariants as text
 use Rattle.svn_dump.specs.Written.{kind_line, action_word, source_lines, prop_lines, sum_line, sum_lines, base_sum_lines, text_lines, length_line, length_lines, headers}
 use Rattle.law_dump.specs.Laws.{IsPath, IsSource}
-use Rattle.law_dump.proofs.Lacking.{lacks}
+use Rattle.law_dump.proofs.Lacking.{lacks, number_lacks_line_feed}
 use Rattle.law_dump.proofs.HeaderFields.{Field, AreFields, is_value, value_line, lines}
-use Rattle.law_dump.proofs.Decimals.{spelled}
 use Rattle.law_dump.proofs.HexSums.{encoded_lacks_line_feed}
 use Rattle.law_dump.proofs.PathFields.{path_lacks_line_feed}
 use Rattle.law_dump.proofs.PropSections.{is_delta}
@@ -187,7 +186,7 @@ flag_plain false = refl
 
 rev_plain : (source : Option CopySource) → IfSome source IsSource → is_value (option_map (λ (s : CopySource). decimal s.rev) source) ≡ true
 rev_plain None h = refl
-rev_plain (Some source) h = (spelled source.rev h.rev).no_line_feed
+rev_plain (Some source) h = number_lacks_line_feed source.rev h.rev
 
 source_plain : (source : Option CopySource) → IfSome source IsSource
     → is_value (option_map (λ (s : CopySource). path_text s.path) source) ≡ true
@@ -196,7 +195,7 @@ source_plain (Some source) h = path_lacks_line_feed source.path h.path.names
 
 pub number_plain : (o : Option ℕ) → unwrap_or o 0 < 2 ^ 64 → is_value (option_map decimal o) ≡ true
 number_plain None h = refl
-number_plain (Some n) h = (spelled n h).no_line_feed
+number_plain (Some n) h = number_lacks_line_feed n h
 
 pub both_small : (props text : Option ℕ) → unwrap_or props 0 + unwrap_or text 0 < 2 ^ 64 → unwrap_or (both_lengths props text) 0 < 2 ^ 64
 both_small None None h = h

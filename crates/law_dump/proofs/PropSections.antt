@@ -19,7 +19,7 @@ use Rattle.svn_dump.specs.Written.{run, entry, entries, prop_bytes}
 use Rattle.law_dump.specs.Laws.{IsPropSection}
 use Rattle.law_dump.specs.Grammar.{IsRun, IsChange, IsChanges, IsPropsOf}
 use Rattle.law_dump.proofs.GrammarSections.{sized_props_given}
-use Rattle.law_dump.proofs.Decimals.{number_of_decimal}
+use Rattle.svn_digits.proofs.Decimals.{number_of_decimal}
 
 -- ---- changes that are written are by the grammar
 

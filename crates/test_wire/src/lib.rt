@@ -1,0 +1,11 @@
+//! Tests of the protocol: items in pieces of several sizes, recorded and malformed; what servers answer; URLs.
+#![tactic(auto)]
+
+#[cfg(test)]
+mod answers;
+#[cfg(test)]
+mod items;
+#[cfg(test)]
+mod large;
+#[cfg(test)]
+mod urls;
