@@ -136,7 +136,7 @@ pub fn reason_of(
     missing: Reason,
     found: Option<&Found<'_>>,
 ) -> Result<Option<Reason>, AllocError>
-    ensures { IfOk result (λ reason. reason ≡ place_reason (get_in copy.now) path.now node.now missing (option_map found_place (option_copied found))) }
+    ensures { IfOk result (λ reason. reason ≡ place_reason (get_in copy.now) path.now node.now missing (option_map found_place (option_copied found.entry))) }
 {
     let below = Below { alloc, copy, path };
     match (node, found) {
