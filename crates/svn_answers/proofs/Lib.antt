@@ -1,4 +1,7 @@
 -- Verdicts, and answers one after another.
 pub mod Answering
+pub mod Hearing
 pub mod Driving
+pub mod Updating
+pub mod Refusing
 pub mod Loadings

@@ -1,18 +1,28 @@
 -- Histories, loaded from dumps.
 use Rattle.std.proofs.Common.{◌≡◌, ℕ, List, ◌∙◌, refl, sym, ap, subst, Option, None, Some, Ok}
+use Rattle.std.specs.Prelude.{Err}
 use Rattle.std.specs.Prelude.{MatchOption}
 use Rattle.std.specs.Option.{option_or}
 use Rattle.svn_repo.specs.History.{History}
+use Rattle.svn_dump.specs.declared.fault.DumpFault.{DumpFault}
+use Rattle.svn_dump.specs.declared.fault.DumpFault.TheVariants as dump
 use Rattle.svn_dump.specs.declared.reader.Reader.{Reader}
 use Rattle.svn_dump.specs.declared.sections.Limits.{Limits}
 use Rattle.svn_dump.specs.declared.sections.Texts.{Texts}
+use Rattle.svn_dump.specs.Reading.{Fails}
 use Rattle.svn_dump.specs.Readers.{left_in, Opens, Shows}
+use Rattle.svn_dump.specs.Records.{format_at}
 use Rattle.svn_history.specs.declared.loader.Loader.{Loader}
+use Rattle.svn_history.specs.declared.fault.LoadFault.{LoadFault}
+use Rattle.svn_history.specs.declared.fault.LoadFault.TheVariants.{Memory}
+use Rattle.svn_history.specs.Parts.{Loading, RefusesAll, loading}
+use Rattle.svn_history.specs.Results.{of_dump}
 use Rattle.svn_history.specs.Steps.{Draft, draft_of, begun}
 use Rattle.svn_history.specs.Loading.{LoadsDump}
 use Rattle.svn_history.specs.Fronts.{HasFront, FrontLoaded, uuid_in, uuid_at, given_uuid}
+use Rattle.svn_answers.specs.declared.loaded.DumpRefusal.{DumpRefusal}
 use Rattle.svn_answers.specs.declared.loaded.Loaded.{Loaded}
-use Rattle.svn_answers.specs.Loadings.{BeginsDump, HasFrontAfter, IsReady, IsLoaded}
+use Rattle.svn_answers.specs.Loadings.{BeginsDump, HasFrontAfter, IsReady, IsLoaded, IsAtFront, IsAtRecord, IsRefusalOf, IsFrontRefusal, IsLaterRefusal, IsDumpRefusal, at_record, out_of_memory, in_front, later, from_start}
 
 -- a reader that was made has read the first record
 pub begins_by : {R : Type 0} (remaining : R → Option (List ℕ)) (limits : Limits) (input : Option (List ℕ)) (reader : Reader R)
@@ -60,3 +70,43 @@ module _ {R : Type 0} (remaining : R → Option (List ℕ)) (limits : Limits) (t
             (subst (λ (l : Limits). LoadsDump l loader.records.texts left loader.transaction.history loaded.repo) ready.limits_are loads));
         front = front_by input loaded ready front;
       }
+
+  -- what a loader refuses that was given nothing but the first record
+  pub later_by : (input : Option (List ℕ)) (e : LoadFault) (h : History) → IsReady remaining limits texts input loader
+      → RefusesAll loader.records.limits loader.records.texts (loading remaining loader) e h → IsLaterRefusal limits texts input e
+  later_by input e h ready refuses =
+      let left : Option (List ℕ) = left_in remaining loader.records in
+      let started : loading remaining loader ≡ from_start left =
+      (λ i. record { rev = ready.no_rev i; draft = ready.fresh i; left = left }) in
+      record {
+        left = left;
+        begins = ready.begins;
+        history = h;
+        why =
+            subst (λ (l : Loading). RefusesAll limits texts l e h) started
+            (subst (λ (t : Texts). RefusesAll limits t (loading remaining loader) e h) ready.texts_are
+            (subst (λ (l : Limits). RefusesAll l loader.records.texts (loading remaining loader) e h) ready.limits_are refuses));
+      }
+
+-- ---- refusals
+
+module _ (limits : Limits) (texts : Texts) where
+  pub front_refused_by : {R : Type 0} (input : Option (List ℕ)) (left : Reader R → Option (List ℕ)) (fault : DumpFault) (refusal : DumpRefusal)
+      → Opens limits input left (Err fault) → IsAtFront refusal (of_dump fault) → IsFrontRefusal limits input refusal
+  front_refused_by None left fault refusal opens at = record { fault = fault; at_front = at; why = tt }
+  front_refused_by (Some bytes) left fault refusal opens at = record { fault = fault; at_front = at; why = opens }
+
+  no_bytes : (input : Option (List ℕ)) → MatchOption input (Unit {0}) (λ bytes. Fails dump.Memory (format_at limits bytes))
+  no_bytes None = tt
+  no_bytes (Some bytes) = tt
+
+  pub memory_in_front : (input : Option (List ℕ)) (refusal : DumpRefusal) → IsAtFront refusal Memory → IsFrontRefusal limits input refusal
+  memory_in_front input refusal at = record { fault = dump.Memory; at_front = at; why = no_bytes input }
+
+  -- what is reported of a loader that refused
+  pub refusal_by : {R : Type 0} (input : Option (List ℕ)) (loader : Loader R) (refusal : DumpRefusal) (e : LoadFault) → loader.refused ≡ Some e
+      → IsLaterRefusal limits texts input e → IsRefusalOf loader refusal → IsDumpRefusal limits texts input refusal
+  refusal_by input loader refusal e is refused (at_record r) =
+      let same : e ≡ refusal.fault = (let given : loader.refused ≡ Some refusal.fault = r.fault in cc) in
+      later (subst (λ (x : LoadFault). IsLaterRefusal limits texts input x) same refused)
+  refusal_by input loader refusal e is refused (out_of_memory m) = in_front (memory_in_front input refusal m)

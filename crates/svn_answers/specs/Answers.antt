@@ -2,9 +2,11 @@
 --     IsAudited opens stayed compared word audited      a word opened a copy that stayed as it was, of the same repository, and this is the verdict on it
 --     IsCopyFault opens stayed compared word fault      why the copy of a word isn't audited: where that is said of its bytes, it stayed as it was
 --     answer_text word answer, verdict_of answer      what is printed of a word's answer, and its verdict
---     Checks opens stayed compared words verdict text      each word was answered, in their order: these are all lines, and the worst of the verdicts
---     Tells opens stayed compared inquiry word verdict text      this was written of what is asked of the word's copy, and with that verdict
-use Rattle.std.specs.Prelude.{◌≡◌, ℕ, List, [], ◌∷◌, map, false, Option, Some, Result, Ok, Err}
+--     notices_of word answer      what is reported of it: what was passed over of a copy, or why it is refused
+--     Checks opens stayed compared words verdict text heard      each word was answered, in their order: these are all lines, all notices, and the worst of
+--                                                                the verdicts
+--     Tells opens stayed compared inquiry word verdict text heard      this was written of what is asked of the word's copy, with that verdict and these notices
+use Rattle.std.specs.Prelude.{◌≡◌, ℕ, List, [], ◌∷◌, ◌++◌, map, false, Option, Some, Result, Ok, Err}
 use Rattle.std.specs.Option.{option_copied}
 use Rattle.std.specs.List.{flat_map, AllByRecursion}
 use Rattle.svn_types.specs.Names.{Path}
@@ -19,13 +21,19 @@ use Rattle.svn_disk_audit.specs.Pristine.{Store}
 use Rattle.svn_disk_audit.specs.Audits.{IsAudit, IsVerdict, IsAccepted, IsAuditFault}
 use Rattle.svn_disk_audit.specs.Repositories.{IsOfRepository}
 use Rattle.svn_answers.specs.declared.asked.History.{History as CodeHistory}
+use Rattle.svn_answers.specs.declared.asked.OnDisk.{OnDisk}
 use Rattle.svn_answers.specs.declared.fault.CopyFault.{CopyFault}
 use Rattle.svn_answers.specs.declared.fault.CopyFault.TheVariants.{Refused, Audit}
+use Rattle.svn_answers.specs.declared.fault.TellFault.{TellFault}
+use Rattle.svn_answers.specs.declared.fault.TellFault.TheVariants as faults
+use Rattle.svn_answers.specs.declared.notices.Notice.TheVariants.{Unanswered}
 use Rattle.svn_answers.specs.declared.verdict.Verdict.{Verdict}
 use Rattle.svn_answers.specs.declared.verdict.Verdict.TheVariants as verdicts
 use Rattle.svn_answers.specs.declared.telling.Inquiry.{Inquiry}
+use Rattle.svn_answers.specs.declared.topic.TopicFault.{TopicFault}
 use Rattle.svn_answers.specs.Lines.{checked_text}
-use Rattle.svn_answers.specs.Topics.{IsTopicText}
+use Rattle.svn_answers.specs.Notices.{Heard, of_notes}
+use Rattle.svn_answers.specs.Topics.{IsTopicText, IsTopicFault}
 use Rattle.svn_answers.specs.Verdicts.{worst}
 
 -- what copies are compared with: a history, how it keeps texts, and the UUID of its repository, where that is known
@@ -73,10 +81,10 @@ IsCopyFault opens stayed compared name (Audit fault) = IsAuditRefusal opens stay
 -- ---- answers
 
 abbrev pub Answer : Type 0 → Type 0
-Answer F = Result Audited (CopyFault F)
+Answer F = Result OnDisk (CopyFault F)
 
 abbrev pub IsAnswer : {F : Type 0} → Opens → Stayed → Compared → List ℕ → Answer F → Type 0
-IsAnswer opens stayed compared name (Ok audited) = IsAudited opens stayed compared name audited
+IsAnswer opens stayed compared name (Ok found) = IsAudited opens stayed compared name found.audited
 IsAnswer opens stayed compared name (Err fault) = IsCopyFault opens stayed compared name fault
 
 abbrev pub verdict_on : List Untrue → Verdict
@@ -84,32 +92,73 @@ verdict_on [] = verdicts.True
 verdict_on (u ∷ us) = verdicts.Untrue
 
 abbrev pub verdict_of : {F : Type 0} → Answer F → Verdict
-verdict_of (Ok audited) = verdict_on audited.untrue.items
+verdict_of (Ok found) = verdict_on found.audited.untrue.items
 verdict_of (Err fault) = verdicts.Refused
 
 -- a refused copy has no line
 abbrev pub answer_text : {F : Type 0} → List ℕ → Answer F → List ℕ
-answer_text name (Ok audited) = checked_text name audited.copy audited.untrue.items
+answer_text name (Ok found) = checked_text name found.audited.copy found.audited.untrue.items
 answer_text name (Err fault) = []
 
+-- what was passed over of a copy
+abbrev pub passed_over : {F : Type 0} → List ℕ → Answer F → Heard F
+passed_over name (Ok found) = of_notes name found.notes
+passed_over name (Err fault) = []
+
+abbrev pub unanswered : {F : Type 0} → List ℕ → TellFault F → Heard F
+unanswered name fault = (name, Unanswered fault) ∷ []
+
+abbrev pub notices_of : {F : Type 0} → List ℕ → Answer F → Heard F
+notices_of name (Ok found) = of_notes name found.notes
+notices_of name (Err fault) = unanswered name (faults.Copy fault)
+
 pub record Checks (F : Type 0) (opens : Opens) (stayed : Stayed) (compared : Compared) (words : List (List ℕ)) (verdict : Verdict)
-    (text : List ℕ) : Type 0 where
+    (text : List ℕ) (heard : Heard F) : Type 0 where
   pub answers : List (List ℕ × Answer F)
   pub in_order : map (λ a. a.0) answers ≡ words
   pub each : AllByRecursion (λ a. IsAnswer opens stayed compared a.0 a.1) answers
   pub lines : text ≡ flat_map (λ a. answer_text a.0 a.1) answers
+  pub notices : heard ≡ flat_map (λ a. notices_of a.0 a.1) answers
   pub worst_of_all : verdict ≡ worst (map (λ a. verdict_of a.1) answers)
 
 -- ---- what is asked of one copy
 
-pub record IsTold (opens : Opens) (stayed : Stayed) (compared : Compared) (inquiry : Inquiry) (name : List ℕ) (text : List ℕ) : Type 0 where
-  pub audited : Audited
-  pub is : IsAudited opens stayed compared name audited
-  pub allowed : inquiry.allow_untrue ≡ false → audited.untrue.items ≡ []
-  pub answer : IsTopicText compared.history audited.copy inquiry.topic text
+-- what is asked of the copy that was found, which may have to be true
+pub record IsTold (compared : Compared) (inquiry : Inquiry) (found : OnDisk) (text : List ℕ) : Type 0 where
+  pub allowed : inquiry.allow_untrue ≡ false → found.audited.untrue.items ≡ []
+  pub answer : IsTopicText compared.history found.audited.copy inquiry.topic text
 
-abbrev pub Tells : Opens → Stayed → Compared → Inquiry → List ℕ → Verdict → List ℕ → Type 0
-Tells opens stayed compared inquiry name verdicts.True text = IsTold opens stayed compared inquiry name text
-Tells opens stayed compared inquiry name verdicts.Untrue text = ⊥
--- where it is refused, nothing is written
-Tells opens stayed compared inquiry name verdicts.Refused text = text ≡ []
+abbrev pub IsToldOf : {F : Type 0} → Compared → Inquiry → Answer F → List ℕ → Type 0
+IsToldOf compared inquiry (Ok found) text = IsTold compared inquiry found text
+IsToldOf compared inquiry (Err fault) text = ⊥
+
+-- the first of the untrue paths that keep a copy from being answered of
+pub record IsFirstUntrue (inquiry : Inquiry) (all : List Untrue) (untrue : Untrue) : Type 0 where
+  pub not_allowed : inquiry.allow_untrue ≡ false
+  pub rest : List Untrue
+  pub first : all ≡ untrue ∷ rest
+
+-- what is asked of a copy that may be answered of is refused
+pub record IsTopicRefusal (compared : Compared) (inquiry : Inquiry) (found : OnDisk) (fault : TopicFault) : Type 0 where
+  pub allowed : inquiry.allow_untrue ≡ false → found.audited.untrue.items ≡ []
+  pub why : IsTopicFault compared.history found.audited.copy inquiry.topic fault
+
+-- why nothing is told of what was found
+abbrev pub IsTellFault : {F : Type 0} → Compared → Inquiry → Answer F → TellFault F → Type 0
+IsTellFault compared inquiry (Err fault) e = e ≡ faults.Copy fault
+IsTellFault compared inquiry (Ok found) (faults.Copy fault) = ⊥
+IsTellFault compared inquiry (Ok found) (faults.Untrue untrue) = IsFirstUntrue inquiry found.audited.untrue.items untrue
+IsTellFault compared inquiry (Ok found) (faults.Topic fault) = IsTopicRefusal compared inquiry found fault
+
+-- it is told, or refused for a reason that is reported, and then nothing is written
+abbrev pub TellsOf : {F : Type 0} → Compared → Inquiry → List ℕ → Answer F → Verdict → List ℕ → Heard F → Type 0
+TellsOf compared inquiry name found verdicts.True text heard = IsToldOf compared inquiry found text × (heard ≡ passed_over name found)
+TellsOf compared inquiry name found verdicts.Untrue text heard = ⊥
+TellsOf {F} compared inquiry name found verdicts.Refused text heard =
+    (fault : TellFault F) × IsTellFault compared inquiry found fault × (text ≡ []) × (heard ≡ passed_over name found ++ unanswered name fault)
+
+pub record Tells (F : Type 0) (opens : Opens) (stayed : Stayed) (compared : Compared) (inquiry : Inquiry) (name : List ℕ) (verdict : Verdict)
+    (text : List ℕ) (heard : Heard F) : Type 0 where
+  pub found : Answer F
+  pub is : IsAnswer opens stayed compared name found
+  pub told : TellsOf compared inquiry name found verdict text heard

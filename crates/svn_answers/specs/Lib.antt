@@ -1,5 +1,6 @@
 pub mod Lines
 pub mod Verdicts
+pub mod Notices
 pub mod Topics
 pub mod Answers
 pub mod Journals

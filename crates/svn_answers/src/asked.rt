@@ -2,14 +2,15 @@
 ghost use Rattle.std.specs.Prelude.{◌≡◌, ℕ, List, map, IfOk, IfErr, OnOk, Ok};
 ghost use Rattle.std.specs.Io.KnownBytes.{Appends};
 ghost use Rattle.std.specs.Option.{option_copied};
-ghost use Rattle.svn_answers.specs.Answers.{Answer, IsAudited, IsCopyFault, IsAnswer, Checks, answer_text, verdict_of, compared};
+ghost use Rattle.svn_answers.specs.Answers.{Answer, IsAudited, IsCopyFault, IsAnswer, Checks, answer_text, notices_of, verdict_of, compared};
 ghost use Rattle.svn_answers.specs.Lines.{checked_text};
+ghost use Rattle.svn_answers.specs.Notices.{Heard, HearsAll};
 
 use crate::checked::Checked;
 use crate::copies::{Copies, Opened};
 use crate::examination::Examination;
-use crate::fault::{AnswerFault, CopyFault};
-use crate::notices::{tell_notes, tell_refusal};
+use crate::fault::{AnswerFault, CopyFault, TellFault};
+use crate::notices::{Notices, hear_fault, hear_notes};
 use crate::source::Source;
 use crate::verdict::Verdict;
 use std::alloc::Global;
@@ -93,37 +94,37 @@ impl<C: Copies> Asked<'_, C> {
     }
 
     // Answers the question of one copy.
-    fn check_one<W: Write, N: Write>(
+    fn check_one<W: Write, N: Notices<C::Fault>>(
         &self,
         name: &str,
         output: &mut W,
         notices: &mut N,
     ) -> Result<Verdict, AnswerFault>
-        ensures { IfOk result (λ v. (a : Answer C.Fault) × IsAnswer (C.opens self.now.copies.now) (C.stayed self.now.copies.now) (compared self.now.history) name.now a × (v ≡ verdict_of a) × Appends (W.contents output.old) (W.contents output.new) (answer_text name.now a)) }
+        ensures { IfOk result (λ v. (a : Answer C.Fault) × IsAnswer (C.opens self.now.copies.now) (C.stayed self.now.copies.now) (compared self.now.history) name.now a × (v ≡ verdict_of a) × Appends (W.contents output.old) (W.contents output.new) (answer_text name.now a) × HearsAll N.hears (notices_of name.now a) notices.old notices.new) }
     {
         match self.audit_copy(name) {
             Ok(found) => {
-                tell_notes(Source(name), found.notes, notices);
+                hear_notes(name, found.notes, notices);
                 write_checked(name, &found.audited, output)?;
                 Ok(Verdict::on(&found.audited.untrue))
             }
             Err(fault) => {
-                tell_refusal(self.copies, Source(name), &fault, notices);
+                hear_fault(name, TellFault::Copy(fault), notices);
                 Ok(Verdict::Refused)
             }
         }
     }
 
     /// Answers whether the copies that words name are true of the history: writes the lines of each that is audited, in the order of the words, and returns
-    /// the worst of all verdicts. A copy that is refused doesn't keep the others from their answer: why, and what was passed over of a copy, goes to the
-    /// second writer, whose faults are passed over. Write where the first writer fails; no more copies are audited then. It is flushed after each copy.
-    pub fn check<W: Write, N: Write>(
+    /// the worst of all verdicts. A copy that is refused doesn't keep the others from their answer: why, and what was passed over of a copy, is heard
+    /// in the order of the words. Write where the writer fails; no more copies are audited then. It is flushed after each copy.
+    pub fn check<W: Write, N: Notices<C::Fault>>(
         &self,
         names: &[&str],
         output: &mut W,
         notices: &mut N,
     ) -> Result<Verdict, AnswerFault>
-        ensures answers { IfOk result (λ v. (text : List ℕ) × Checks C.Fault (C.opens self.now.copies.now) (C.stayed self.now.copies.now) (compared self.now.history) (map (λ name. name.now) names.now) v text × Appends (W.contents output.old) (W.contents output.new) text) }
+        ensures answers { IfOk result (λ v. (text : List ℕ) × (heard : Heard C.Fault) × Checks C.Fault (C.opens self.now.copies.now) (C.stayed self.now.copies.now) (compared self.now.history) (map (λ name. name.now) names.now) v text heard × Appends (W.contents output.old) (W.contents output.new) text × HearsAll N.hears heard notices.old notices.new) }
     {
         let mut verdict = Verdict::True;
         for name in names {

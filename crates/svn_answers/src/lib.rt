@@ -3,6 +3,7 @@
 //! ```
 //! let loaded = Loaded::load(alloc, input, Limits::default(), Texts::Sha1, &mut NoLoadListener)?;
 //! let asked = Asked { alloc, history: loaded.history(Texts::Sha1), copies: &copies };
+//! let mut notices = WrittenNotices { copies: &copies, output: &mut errors };
 //! let verdict = asked.check(&["trunk", "branch"], &mut output, &mut notices)?;
 //! return ExitCode::from(verdict.status());
 //! ```
@@ -11,14 +12,15 @@
 //!
 //! Files: `loaded` loads a dump. `asked` opens and audits copies, and has `check`; `telling` the other questions, whose answers `topics` writes. A program
 //! opens the files: `copies` is what it implements, and `busy` says when a database isn't read. `examination` compares the repository; `checked`, `source`,
-//! `revisions` print lines, `show` trees, `notices` and `passed_over` what goes to standard error.
+//! `revisions` print lines, `show` trees. `notices` is what hears of what an answer doesn't say; `notice_lines` and `passed_over` print it on standard error.
 //!
-//! Promises: [`Loaded::load`] gives the history of the dump's bytes and what its front says (`IsLoaded`). [`Asked::check`] answers each word, in their
-//! order (`answers`): what it writes are exactly the lines of the copies that were audited (`specs/Lines.antt`), each by the verdict of `svn_disk_audit` on
-//! the bytes that were opened, and what it returns is the worst of all verdicts. A copy that is refused has no line, and the others have theirs. A
-//! verdict, and a fault of the bytes, is reported only of a copy that stayed as it was while it was read. [`Asked::answer`] writes exactly the report,
-//! the calls or the sorted lines of an update (`specs/Topics.antt`), or nothing; [`write_shown`] what a revision has at a path (`specs/Shown.antt`). What
-//! is written to standard error, and the nodes after an update, are only tested.
+//! Promises: [`Loaded::load`] gives the history of the dump's bytes and what its front says (`IsLoaded`), or the first fault of these bytes
+//! (`IsDumpRefusal`). [`Asked::check`] answers each word, in their order (`answers`): what it writes are exactly the lines of the copies that were audited
+//! (`specs/Lines.antt`), each by the verdict of `svn_disk_audit` on the bytes that were opened, and what it returns is the worst of all verdicts. A copy
+//! that is refused has no line, and the others have theirs. A verdict, and a fault of the bytes, is reported only of a copy that stayed as it was while it
+//! was read. [`Asked::answer`] writes exactly the report, the calls, the sorted lines, or the nodes that the calls leave (`specs/Topics.antt`); or nothing,
+//! and reports why (`IsTellFault`). Exactly the notices of these answers are heard, in the order of the words (`specs/Notices.antt`). [`write_shown`] writes
+//! what a revision has at a path (`specs/Shown.antt`). How notices are printed is only tested.
 #![tactic(auto)]
 
 mod asked;
@@ -28,6 +30,7 @@ mod copies;
 mod examination;
 mod fault;
 mod loaded;
+mod notice_lines;
 mod notices;
 mod passed_over;
 mod revisions;
@@ -45,7 +48,8 @@ pub use copies::{Copies, Opened};
 pub use examination::ExaminerFault;
 pub use fault::{AnswerFault, CopyFault, TellFault};
 pub use loaded::{DumpRefusal, Loaded};
-pub use notices::tell_notes;
+pub use notice_lines::WrittenNotices;
+pub use notices::{Notice, Notices};
 pub use show::{ShowFault, write_shown};
 pub use source::Source;
 pub use telling::Inquiry;

@@ -1,7 +1,7 @@
 //! The history of a dump.
-ghost use Rattle.std.specs.Prelude.{◌≡◌, IfOk};
+ghost use Rattle.std.specs.Prelude.{◌≡◌, IfOk, IfErr};
 ghost use Rattle.svn_answers.specs.Answers.{compared};
-ghost use Rattle.svn_answers.specs.Loadings.{IsReady, IsLoaded};
+ghost use Rattle.svn_answers.specs.Loadings.{IsReady, IsLoaded, IsAtFront, IsRefusalOf, IsFrontRefusal, IsDumpRefusal};
 
 use crate::asked::History;
 use std::alloc::Global;
@@ -38,7 +38,9 @@ pub struct DumpRefusal {
 
 impl DumpRefusal {
     /// At no record: before the first, or where memory ran out.
-    pub fn at_front(fault: LoadFault) -> DumpRefusal {
+    pub fn at_front(fault: LoadFault) -> DumpRefusal
+        ensures { IsAtFront result fault }
+    {
         DumpRefusal {
             byte: 0,
             rev: None,
@@ -48,7 +50,9 @@ impl DumpRefusal {
     }
 
     /// What a loader refused. Memory where an allocation failed, or where nothing was refused.
-    pub fn of<R: Read + Drop>(alloc: Global, loader: &Loader<R>) -> DumpRefusal {
+    pub fn of<R: Read + Drop>(alloc: Global, loader: &Loader<R>) -> DumpRefusal
+        ensures { IsRefusalOf loader.now result }
+    {
         let Some(refusal) = loader.refusal() else {
             return DumpRefusal::at_front(LoadFault::Memory);
         };
@@ -89,7 +93,9 @@ fn loader_of<R: Read + Drop>(
     limits: Limits,
     texts: Texts,
 ) -> Result<Loader<R>, DumpRefusal>
-    ensures { IfOk result (λ l. IsReady R.remaining limits texts (R.remaining input) l) }
+    ensures ready { IfOk result (λ l. IsReady R.remaining limits texts (R.remaining input) l) }
+    ensures refused { IfErr result (IsFrontRefusal limits (R.remaining input)) }
+    ensures going { IfOk result (λ l. l.refused ≡ None) }
 {
     let Ok(repo) = Repo::new(alloc) else {
         return Err(DumpRefusal::at_front(LoadFault::Memory));
@@ -102,7 +108,8 @@ fn loader_of<R: Read + Drop>(
 
 // The UUID of the repository.
 fn uuid_of<R: Read + Drop>(alloc: Global, loader: &Loader<R>) -> Result<Option<Text>, DumpRefusal>
-    ensures { IfOk result (λ uuid. uuid ≡ loader.now.front.uuid) }
+    ensures uuid { IfOk result (λ uuid. uuid ≡ loader.now.front.uuid) }
+    ensures fault { IfErr result (λ e. IsAtFront e LoadFault.Memory) }
 {
     let Some(uuid) = loader.uuid() else {
         return Ok(None);
@@ -123,7 +130,8 @@ impl Loaded {
         texts: Texts,
         listener: &mut L,
     ) -> Result<Loaded, DumpRefusal>
-        ensures { IfOk result (λ l. IsLoaded limits texts (R.remaining input) l) }
+        ensures loaded { IfOk result (λ l. IsLoaded limits texts (R.remaining input) l) }
+        ensures refused { IfErr result (IsDumpRefusal limits texts (R.remaining input)) }
     {
         let mut loader = loader_of(alloc, input, limits, texts)?;
         let Ok(()) = loader.load_all_with(listener) else {

@@ -1,52 +1,62 @@
-//! What is reported on standard error beside an answer. Where it can't be written, the answer alone tells.
+//! What is reported of a working copy beside its answer.
+ghost use Rattle.std.specs.Prelude.{◌≡◌};
+ghost use Rattle.svn_answers.specs.Answers.{unanswered};
+ghost use Rattle.svn_answers.specs.Notices.{HearsAll, is_nothing, of_notes};
 
-use crate::copies::Copies;
-use crate::examination::ExaminerFault;
-use crate::fault::CopyFault;
-use crate::passed_over::PassedOver;
-use crate::source::Source;
-use std::io::Write;
-use svn_disk_audit::{AuditFault, RepositoryFault};
+use crate::fault::TellFault;
 use svn_wcdb::Notes;
 
-/// What was passed over of a copy, if anything was.
-pub fn tell_notes<N: Write>(name: Source<'_>, notes: Option<Notes>, notices: &mut N) {
+/// What a copy's answer doesn't say.
+#[derive(Debug, Drop)]
+pub enum Notice<F> {
+    /// So much was passed over of the copy.
+    PassedOver(Notes),
+    /// It has no answer, for this reason.
+    Unanswered(TellFault<F>),
+}
+
+/// Hears of copies what their answers don't say.
+pub trait Notices<F> {
+    ghost use Rattle.std.specs.Prelude.{ℕ, List};
+    ghost use Rattle.svn_answers.specs.declared.notices.Notice.{Notice};
+
+    // of the hearer before, the word, the notice, and the hearer after; where it isn't said, nothing is known of what it does
+    ghost hears: { Self → List ℕ → Notice F → Self → Type 0 } = { λ _ _ _ _. Unit {0} };
+
+    /// A notice of the copy that a word names.
+    fn hear(&mut self, word: &str, notice: &Notice<F>)
+        ensures { hears self.old word.now notice.now self.new };
+}
+
+// Whether nothing was passed over.
+fn is_nothing(notes: Notes) -> bool
+    ensures { result ≡ is_nothing notes }
+{
+    let of_copy = notes.changes == 0 && notes.externals == 0 && notes.actual == 0;
+    of_copy && notes.locks == 0 && notes.work == 0 && notes.locked == 0
+}
+
+/// Reports what was passed over of a copy, if anything was.
+pub(crate) fn hear_notes<F: Drop, N: Notices<F>>(
+    word: &str,
+    notes: Option<Notes>,
+    notices: &mut N,
+)
+    ensures { HearsAll N.hears (of_notes word.now notes) notices.old notices.new }
+{
     let Some(notes) = notes else {
         return;
     };
-    let passed_over = PassedOver(notes);
-    if !passed_over.is_empty() {
-        let _ = writeln!(notices, "svnaudit: {name}: passed over: {passed_over}");
-        let _ = notices.flush();
+    if !is_nothing(notes) {
+        let notice = Notice::PassedOver(notes);
+        notices.hear(word, &notice);
     }
 }
 
-// Whether an allocation failed: then it isn't a fault of the copy.
-pub(crate) fn is_memory<C: Copies>(copies: &C, fault: &CopyFault<C::Fault>) -> bool {
-    match fault {
-        CopyFault::Refused(fault) => copies.is_memory(fault),
-        CopyFault::Audit(AuditFault::Memory) => true,
-        CopyFault::Audit(AuditFault::Examiner(ExaminerFault::Copy(fault))) => {
-            copies.is_memory(fault)
-        }
-        CopyFault::Audit(AuditFault::Examiner(ExaminerFault::Repository(fault))) => {
-            matches!(fault, RepositoryFault::Memory)
-        }
-        CopyFault::Audit(_) => false,
-    }
-}
-
-/// Why a copy is refused.
-pub(crate) fn tell_refusal<C: Copies, N: Write>(
-    copies: &C,
-    name: Source<'_>,
-    fault: &CopyFault<C::Fault>,
-    notices: &mut N,
-) {
-    let _ = if is_memory(copies, fault) {
-        writeln!(notices, "svnaudit: out of memory")
-    } else {
-        writeln!(notices, "svnaudit: {name}: {fault}")
-    };
-    let _ = notices.flush();
+/// Reports why a copy has no answer.
+pub(crate) fn hear_fault<F: Drop, N: Notices<F>>(word: &str, fault: TellFault<F>, notices: &mut N)
+    ensures { HearsAll N.hears (unanswered word.now fault) notices.old notices.new }
+{
+    let notice = Notice::Unanswered(fault);
+    notices.hear(word, &notice);
 }

@@ -40,11 +40,6 @@ impl PassedOver {
         ]
     }
 
-    /// Whether nothing was passed over.
-    pub(crate) fn is_empty(self) -> bool {
-        let counts = self.counts();
-        counts.iter().all(|count| count.0 == 0)
-    }
 }
 
 /// The sorts that there are any of, after one another.

@@ -1,4 +1,6 @@
 //! What is asked of a working copy that was audited, but for the verdict on it.
+ghost use Rattle.std.specs.Prelude.{◌≡◌};
+ghost use Rattle.svn_answers.specs.declared.topic.TopicFault.TheVariants.{Memory};
 
 use std::alloc::{AllocError, AllocFailed};
 use svn_model::DriveFault;
@@ -33,12 +35,16 @@ pub enum TopicFault {
 }
 
 impl From<AllocError> for TopicFault {
+    ghost from_gives = { λ _ e. e ≡ Memory };
+
     fn from(_error: AllocError) -> TopicFault {
         TopicFault::Memory
     }
 }
 
 impl<T: Drop> From<AllocFailed<T>> for TopicFault {
+    ghost from_gives = { λ _ e. e ≡ Memory };
+
     fn from(_error: AllocFailed<T>) -> TopicFault {
         TopicFault::Memory
     }

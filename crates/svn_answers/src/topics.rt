@@ -1,15 +1,15 @@
 //! Questions about a working copy but for the verdict on it, and their answers.
-ghost use Rattle.std.specs.Prelude.{◌≡◌, ◌≢◌, ◌+◌, ◌-◌, ◌++◌, ◌∷◌, [], ℕ, List, length, map, flat_map, string_bytes, string_cmp, IsPermutation, IsSorted, IfOk, IfErr, OnOk};
+ghost use Rattle.std.specs.Prelude.{◌≡◌, ◌≢◌, ◌++◌, ◌∷◌, [], ℕ, List, map, flat_map, string_bytes, string_cmp, IsPermutation, IsSorted, IfOk, IfErr, OnOk};
 ghost use Rattle.std.specs.Io.KnownBytes.{Appends};
 ghost use Rattle.svn_editor.specs.Lines.{call_line};
 ghost use Rattle.svn_report.specs.Lines.{report_text};
 ghost use Rattle.svn_model.specs.Crawl.{crawl};
-ghost use Rattle.svn_model.specs.Nodes.{get_in};
+ghost use Rattle.svn_model.specs.Nodes.{InPathOrder, get_in};
 ghost use Rattle.svn_wc.specs.Lines.{copy_text};
 ghost use Rattle.svn_audit.specs.Lines.{update_lines};
 ghost use Rattle.svn_audit.specs.Printing.{line_text};
 ghost use Rattle.svn_answers.specs.declared.topic.TopicFault.TheVariants.{Memory, Write as NotWritten};
-ghost use Rattle.svn_answers.specs.Topics.{IsTopicText, or_latest, calls_to, line};
+ghost use Rattle.svn_answers.specs.Topics.{AreUpdated, IsCallsFault, IsNodesFault, IsTopicFault, IsTopicText, or_latest, calls_to, line, of_drive};
 
 use crate::topic::{Topic, TopicFault};
 use std::alloc::Global;
@@ -17,7 +17,7 @@ use std::io::Write;
 use svn_audit::update_lines;
 use svn_drive::{Request, drive_request};
 use svn_editor::{Call, EditFault, Recorder};
-use svn_model::{DriveEnd, DriveFault};
+use svn_model::DriveFault;
 use svn_repo::Repo;
 use svn_report::Report;
 use svn_types::Rev;
@@ -43,7 +43,9 @@ fn crawled(alloc: Global, copy: &WorkingCopy) -> Result<Report, TopicFault>
     }
 }
 
-fn drive_fault(fault: DriveFault) -> TopicFault {
+fn drive_fault(fault: DriveFault) -> TopicFault
+    ensures { result ≡ of_drive fault }
+{
     match fault {
         DriveFault::Memory | DriveFault::Editor(EditFault::Memory) => TopicFault::Memory,
         fault => TopicFault::Drive(fault),
@@ -57,7 +59,8 @@ fn calls_to(
     copy: &WorkingCopy,
     rev: Option<Rev>,
 ) -> Result<Vec<Call>, TopicFault>
-    ensures { IfOk result (λ calls. calls.items ≡ calls_to repo.now copy.now rev) }
+    ensures calls { IfOk result (λ calls. calls.items ≡ calls_to repo.now copy.now rev) }
+    ensures fault { IfErr result (IsCallsFault repo.now copy.now rev) }
 {
     let report = crawled(alloc, copy)?;
     let request = Request::update(or_latest(repo, rev));
@@ -76,6 +79,7 @@ fn sorted_lines(
 ) -> Result<Vec<String>, TopicFault>
     ensures same { IfOk result (λ lines. IsPermutation (map line_text (update_lines (get_in copy.now) calls.now)) (map string_bytes lines.items)) }
     ensures sorted { IfOk result (λ lines. IsSorted string_cmp lines.items) }
+    ensures fault { IfErr result (λ e. e ≡ Memory) }
 {
     let mut texts = Vec::new(alloc);
     for line in &update_lines(alloc, copy, calls)? {
@@ -83,24 +87,6 @@ fn sorted_lines(
     }
     texts.sort_unstable();
     Ok(texts)
-}
-
-// Makes an update of a copy.
-fn update(
-    alloc: Global,
-    repo: &Repo,
-    copy: &mut WorkingCopy,
-    rev: Option<Rev>,
-) -> Result<(), TopicFault> {
-    let report = crawled(alloc, copy)?;
-    let request = Request::update(or_latest(repo, rev));
-    let Ok(mut applier) = Applier::new(alloc, copy) else {
-        return Err(TopicFault::Memory);
-    };
-    match drive_request(alloc, repo, &report, &request, &mut applier) {
-        Ok(_) => Ok(()),
-        Err(fault) => Err(drive_fault(fault)),
-    }
 }
 
 // Writes calls, a line each.
@@ -141,11 +127,36 @@ fn write_report<W: Write>(report: &Report, output: &mut W) -> Result<(), TopicFa
 
 fn write_nodes<W: Write>(copy: &WorkingCopy, output: &mut W) -> Result<(), TopicFault>
     ensures written { OnOk result (Appends (W.contents output.old) (W.contents output.new) (copy_text copy.now)) }
+    ensures in_order { InPathOrder copy.now }
     ensures fault { IfErr result (λ e. e ≡ NotWritten) }
 {
+    copy.law();
     match write!(output, "{copy}") {
         Ok(()) => Ok(()),
         Err(_) => Err(TopicFault::Write),
+    }
+}
+
+// Updates a copy, and writes its nodes.
+fn write_updated<W: Write>(
+    alloc: Global,
+    repo: &Repo,
+    copy: &mut WorkingCopy,
+    rev: Option<Rev>,
+    output: &mut W,
+) -> Result<(), TopicFault>
+    ensures written { OnOk result ((text : List ℕ) × AreUpdated repo.now copy.old rev text × Appends (W.contents output.old) (W.contents output.new) text) }
+    ensures fault { IfErr result (λ e. e ≢ NotWritten → IsNodesFault repo.now copy.old rev e) }
+    ensures unwritten { IfErr result (λ e. e ≢ NotWritten → Appends (W.contents output.old) (W.contents output.new) []) }
+{
+    let report = crawled(alloc, copy)?;
+    let request = Request::update(or_latest(repo, rev));
+    let Ok(mut applier) = Applier::new(alloc, copy) else {
+        return Err(TopicFault::Memory);
+    };
+    match drive_request(alloc, repo, &report, &request, &mut applier) {
+        Ok(_) => write_nodes(applier.copy(), output),
+        Err(fault) => Err(drive_fault(fault)),
     }
 }
 
@@ -158,6 +169,7 @@ fn write_unflushed<W: Write>(
     output: &mut W,
 ) -> Result<(), TopicFault>
     ensures told { OnOk result ((text : List ℕ) × IsTopicText repo.now copy.old topic text × Appends (W.contents output.old) (W.contents output.new) text) }
+    ensures fault { IfErr result (λ e. e ≢ NotWritten → IsTopicFault repo.now copy.old topic e) }
     ensures unwritten { IfErr result (λ e. e ≢ NotWritten → Appends (W.contents output.old) (W.contents output.new) []) }
 {
     match topic {
@@ -171,10 +183,7 @@ fn write_unflushed<W: Write>(
             let calls = calls_to(alloc, repo, copy, rev)?;
             write_calls(&calls, output)
         }
-        Topic::Nodes(rev) => {
-            update(alloc, repo, copy, rev)?;
-            write_nodes(copy, output)
-        }
+        Topic::Nodes(rev) => write_updated(alloc, repo, copy, rev, output),
     }
 }
 
@@ -188,6 +197,7 @@ pub fn write_topic<W: Write>(
     output: &mut W,
 ) -> Result<(), TopicFault>
     ensures told { OnOk result ((text : List ℕ) × IsTopicText repo.now copy.old topic text × Appends (W.contents output.old) (W.contents output.new) text) }
+    ensures fault { IfErr result (λ e. e ≢ NotWritten → IsTopicFault repo.now copy.old topic e) }
     ensures unwritten { IfErr result (λ e. e ≢ NotWritten → Appends (W.contents output.old) (W.contents output.new) []) }
 {
     write_unflushed(alloc, repo, copy, topic, output)?;

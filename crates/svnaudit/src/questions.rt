@@ -10,19 +10,24 @@ use crate::progress::Progress;
 use std::fs::File;
 use std::io::Read;
 use std::rt::{Clock, Files};
-use svn_answers::{AnswerFault, Asked, History, Verdict};
+use svn_answers::{AnswerFault, Asked, History, Verdict, WrittenNotices};
 
 fn answer_copies<T: Files + Print + Eprint + AllocGlobal>(
     rt: &T,
     history: History<'_>,
     subject: &Subject<'_>,
 ) -> Result<Verdict, Fault> {
+    let copies = Folders { rt };
     let asked = Asked {
         alloc: rt.alloc(),
         history,
-        copies: &Folders { rt },
+        copies: &copies,
     };
-    let (mut output, mut notices) = (output_writer(rt)?, error_writer(rt)?);
+    let mut output = output_writer(rt)?;
+    let mut notices = WrittenNotices {
+        copies: &copies,
+        output: error_writer(rt)?,
+    };
     let answered = match subject {
         Subject::Check(names) => asked.check(names, &mut output, &mut notices),
         Subject::Copy(inquiry, name) => asked.answer(*inquiry, name, &mut output, &mut notices),

@@ -6,7 +6,7 @@ use anyhow::Result;
 use std::alloc::Global;
 use std::rt::Files;
 use std::{fmt, fs};
-use svn_answers::{Asked, Copies, History, Opened};
+use svn_answers::{Asked, Copies, History, Opened, WrittenNotices};
 use svn_disk_audit::Examiner;
 use svn_dump::Texts;
 use svn_types::{RelPath, Text};
@@ -127,12 +127,16 @@ pub(crate) fn check_copies<R: Files + AllocGlobal + Print>(rt: &R) -> Result<()>
             history,
             copies: &copies,
         };
-        let (mut lines, mut notices) = (Vec::new(alloc), Vec::new(alloc));
+        let mut lines = Vec::new(alloc);
+        let mut notices = WrittenNotices {
+            copies: &copies,
+            output: Vec::new(alloc),
+        };
         let verdict = asked.check(names, &mut lines, &mut notices)?;
         let status = verdict.status();
         println!(rt; "check of {row}: status {status}")?;
         print_text(rt, &lines)?;
-        print_text(rt, &notices)?;
+        print_text(rt, &notices.output)?;
     }
     Ok(())
 }

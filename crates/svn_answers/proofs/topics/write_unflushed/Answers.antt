@@ -9,7 +9,7 @@ use Rattle.svn_answers.proofs.topics.write_unflushed.Goals as goal
 pub returns-in_ok-lines-in-Update-clause-told : goal.returns-in_ok-lines-in-Update-clause-told
 returns-in_ok-lines-in-Update-clause-told g c =
     let w = get_in c.args.copy.now in
-    let calls = c.deref.ensures.value ∙ c.in_ok-calls-in-Update.ensures in
+    let calls = c.deref.ensures.value ∙ c.in_ok-calls-in-Update.ensures.calls in
     let lines = sym c.deref-in-Update.ensures.value in
     let same =
     subst (λ texts. IsPermutation (map line_text (update_lines w c.deref.result.now)) (map string_bytes texts)) lines

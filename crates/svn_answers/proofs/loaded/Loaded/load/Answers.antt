@@ -5,12 +5,12 @@ use Rattle.svn_dump.specs.Readers.{left_in}
 use Rattle.svn_answers.proofs.Loadings.{loaded_by, begun_fresh}
 use Rattle.svn_answers.proofs.loaded.Loaded.load.Goals as goal
 
-pub returns : goal.returns
-returns g c =
+pub returns-clause-loaded : goal.returns-clause-loaded
+returns-clause-loaded g c =
     let remaining = g.R.Read.remaining in
     let input = g.R.Read.remaining c.args.input in
     let begun = c.in_ok-loader.loader in
-    let ready = c.in_ok-loader.ensures in
+    let ready = c.in_ok-loader.ensures.ready in
     loaded_by remaining c.args.limits c.args.texts begun input _ ready
     (subst (λ repo. LoadsDump begun.records.limits begun.records.texts (left_in remaining begun.records) begun.transaction.history repo)
     (sym c.into_repo.ensures)
