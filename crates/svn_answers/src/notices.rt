@@ -37,11 +37,7 @@ fn is_nothing(notes: Notes) -> bool
 }
 
 /// Reports what was passed over of a copy, if anything was.
-pub(crate) fn hear_notes<F: Drop, N: Notices<F>>(
-    word: &str,
-    notes: Option<Notes>,
-    notices: &mut N,
-)
+pub(crate) fn hear_notes<F: Drop, N: Notices<F>>(word: &str, notes: Option<Notes>, notices: &mut N)
     ensures { HearsAll N.hears (of_notes word.now notes) notices.old notices.new }
 {
     let Some(notes) = notes else {

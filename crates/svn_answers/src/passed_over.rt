@@ -39,7 +39,6 @@ impl PassedOver {
             ),
         ]
     }
-
 }
 
 /// The sorts that there are any of, after one another.
