@@ -134,9 +134,10 @@ impl Loaded {
         ensures refused { IfErr result (IsDumpRefusal limits texts (R.remaining input)) }
     {
         let mut loader = loader_of(alloc, input, limits, texts)?;
-        let Ok(()) = loader.load_all_with(listener) else {
-            return Err(DumpRefusal::of(alloc, &loader));
-        };
+        match loader.load_all_with(listener) {
+            Ok(()) => {}
+            Err(_fault) => return Err(DumpRefusal::of(alloc, &loader)),
+        }
         let uuid = uuid_of(alloc, &loader)?;
         let first = loader.first_revision();
         Ok(Loaded {

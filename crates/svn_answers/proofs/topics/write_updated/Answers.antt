@@ -1,5 +1,6 @@
 use Rattle.std.proofs.Common.{◌≡◌, ◌∙◌, ap, refl, subst, sym, false, None}
-use Rattle.std.proofs.lemmas.Result.{on_ok_weaker}
+use Rattle.std.proofs.lemmas.Result.{on_ok_weaker, IfErr-weaker}
+use Rattle.svn_answers.specs.declared.topic.TopicFault.TheVariants.{Write as NotWritten}
 use Rattle.svn_editor.specs.declared.mode.Mode.TheVariants as modes
 use Rattle.svn_wc.specs.contracts.applier.ApplierEditor.TheImpl.{ghosts as applier}
 use Rattle.svn_wc.specs.declared.applier.Applier.{Applier}
@@ -41,3 +42,12 @@ returns-clause-fault g c = λ _.
     (nodes_refused h nodes c.args.rev applier.answers _ _ c.in_ok-report.ensures.report asked _ _ (λ (a : Applier). a.edit)
     (λ (a : Applier). a.copy.now) (λ (a : Applier). a.mode) (λ m n call answer took. (took.0, took.1)) (c.in-Ok.ensures.begun, c.in-Ok.ensures.mode) _
     c.in-Err.ensures.calls)
+
+-- the nodes are written, unless the writer fails
+pub returns-in-Ok-drive_request-clause-fault : goal.returns-in-Ok-drive_request-clause-fault
+returns-in-Ok-drive_request-clause-fault g c =
+    IfErr-weaker c.write_nodes.result (λ e. e ≡ NotWritten) _ (λ e unwritten. λ other. absurd (other unwritten)) c.write_nodes.ensures.fault
+
+pub returns-in-Ok-drive_request-clause-unwritten : goal.returns-in-Ok-drive_request-clause-unwritten
+returns-in-Ok-drive_request-clause-unwritten g c =
+    IfErr-weaker c.write_nodes.result (λ e. e ≡ NotWritten) _ (λ e unwritten. λ other. absurd (other unwritten)) c.write_nodes.ensures.fault
