@@ -5,3 +5,5 @@ pub mod Driving
 pub mod Updating
 pub mod Refusing
 pub mod Loadings
+-- A tree of the repository, node by node in path order.
+pub mod TreeOrder

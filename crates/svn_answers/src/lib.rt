@@ -20,7 +20,7 @@
 //! that is refused has no line, and the others have theirs. A verdict, and a fault of the bytes, is reported only of a copy that stayed as it was while it
 //! was read. [`Asked::answer`] writes exactly the report, the calls, the sorted lines, or the nodes that the calls leave (`specs/Topics.antt`); or nothing,
 //! and reports why (`IsTellFault`). Exactly the notices of these answers are heard, in the order of the words (`specs/Notices.antt`). [`write_shown`] writes
-//! what a revision has at a path (`specs/Shown.antt`). How notices are printed is only tested.
+//! what a revision has at a path, node by node (`specs/Shown.antt`), or refuses it as nothing is there. How notices are printed is only tested.
 #![tactic(auto)]
 
 mod asked;
