@@ -10,32 +10,41 @@ use crate::progress::Progress;
 use std::fs::File;
 use std::io::Read;
 use std::rt::{Clock, Files};
-use svn_answers::{AnswerFault, Asked, History, Verdict, WrittenNotices};
+use svn_answers::{AnswerFault, Asked, History, Notices, Verdict, WrittenNotices};
+
+// Answers what is asked, and has notices heard.
+fn answer_with<T: Files + Print + AllocGlobal, N: Notices<Fault>>(
+    rt: &T,
+    history: History<'_>,
+    subject: &Subject<'_>,
+    notices: &mut N,
+) -> Result<Verdict, Fault> {
+    let asked = Asked {
+        alloc: rt.alloc(),
+        history,
+        copies: &Folders { rt },
+    };
+    let mut output = output_writer(rt)?;
+    let answered = match subject {
+        Subject::Check(names) => asked.check(names, &mut output, notices),
+        Subject::Copy(inquiry, name) => asked.answer(*inquiry, name, &mut output, notices),
+    };
+    match answered {
+        Ok(verdict) => Ok(verdict),
+        Err(AnswerFault::Write) => Err(Fault::Write),
+    }
+}
 
 fn answer_copies<T: Files + Print + Eprint + AllocGlobal>(
     rt: &T,
     history: History<'_>,
     subject: &Subject<'_>,
 ) -> Result<Verdict, Fault> {
-    let copies = Folders { rt };
-    let asked = Asked {
-        alloc: rt.alloc(),
-        history,
-        copies: &copies,
-    };
-    let mut output = output_writer(rt)?;
     let mut notices = WrittenNotices {
-        copies: &copies,
+        copies: &Folders { rt },
         output: error_writer(rt)?,
     };
-    let answered = match subject {
-        Subject::Check(names) => asked.check(names, &mut output, &mut notices),
-        Subject::Copy(inquiry, name) => asked.answer(*inquiry, name, &mut output, &mut notices),
-    };
-    match answered {
-        Ok(verdict) => Ok(verdict),
-        Err(AnswerFault::Write) => Err(Fault::Write),
-    }
+    answer_with(rt, history, subject, &mut notices)
 }
 
 fn ask_of<T: Files + Input + Print + Eprint + Clock + AllocGlobal, R: Read + Drop>(

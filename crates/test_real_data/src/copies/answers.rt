@@ -106,6 +106,27 @@ fn print_text<R: Print>(rt: &R, bytes: &[u8]) -> Result<()> {
     Ok(())
 }
 
+// What is answered of copies: the status, the lines, and the notices.
+fn answers_of<C: Copies>(
+    alloc: Global,
+    history: History<'_>,
+    copies: &C,
+    names: &[&str],
+) -> Result<(u8, Vec<u8>, Vec<u8>)> {
+    let asked = Asked {
+        alloc,
+        history,
+        copies,
+    };
+    let mut lines = Vec::new(alloc);
+    let mut notices = WrittenNotices {
+        copies,
+        output: Vec::new(alloc),
+    };
+    let verdict = asked.check(names, &mut lines, &mut notices)?;
+    Ok((verdict.status(), lines, notices.output))
+}
+
 /// Checks copies, and prints the answers.
 pub(crate) fn check_copies<R: Files + AllocGlobal + Print>(rt: &R) -> Result<()> {
     let alloc = rt.alloc();
@@ -122,21 +143,10 @@ pub(crate) fn check_copies<R: Files + AllocGlobal + Print>(rt: &R) -> Result<()>
             texts,
             uuid: *uuid,
         };
-        let asked = Asked {
-            alloc,
-            history,
-            copies: &copies,
-        };
-        let mut lines = Vec::new(alloc);
-        let mut notices = WrittenNotices {
-            copies: &copies,
-            output: Vec::new(alloc),
-        };
-        let verdict = asked.check(names, &mut lines, &mut notices)?;
-        let status = verdict.status();
+        let (status, lines, notices) = answers_of(alloc, history, &copies, names)?;
         println!(rt; "check of {row}: status {status}")?;
         print_text(rt, &lines)?;
-        print_text(rt, &notices.output)?;
+        print_text(rt, &notices)?;
     }
     Ok(())
 }
