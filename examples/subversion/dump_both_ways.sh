@@ -29,8 +29,8 @@ svnadmin dump -q --deltas repo >deltas.dump
 svnrdump dump -q "file://$room/repo" >remote.dump
 last=$(svnlook youngest repo)
 for rev in $(seq 0 "$last"); do
-    for how in sha1 whole; do
-        "$here/trees.py" "$room/repo" "$rev" $([ $how = whole ] && echo --whole) >wanted
+    for how in sha1 md5 whole; do
+        "$here/trees.py" "$room/repo" "$rev" $([ $how = sha1 ] || echo --$how) >wanted
         for dump in plain deltas remote; do
             # (svnrdump gives MD5 alone, so no text can be told by its SHA-1 unread)
             [ $dump.$how = remote.sha1 ] && continue

@@ -1,11 +1,11 @@
 #!/usr/bin/env python3
 """Prints what Subversion itself has in a revision, in the lines of `svnaudit show`.
 
-    trees.py REPOSITORY REV [PATH] [--whole] [--without PATH]
+    trees.py REPOSITORY REV [PATH] [--whole | --md5] [--without PATH]
 
 REPOSITORY is the folder of a repository. Paths and kinds come from `svn ls -R`, properties from `svn proplist -R`, and texts from `svnlook cat`, which
-prints them as they are (`svn cat` would translate keywords). Each text is printed as its SHA-1 checksum, or with --whole as it is. With --without
-nothing is printed of what is at that path and below.
+prints them as they are (`svn cat` would translate keywords). Each text is printed as its SHA-1 checksum, with --md5 as its MD5 checksum, or with --whole
+as it is. With --without nothing is printed of what is at that path and below.
 """
 import base64
 import hashlib
@@ -65,9 +65,13 @@ def kinds(url, rev):
     return found
 
 
+def stand_in(text, by_md5):
+    return "$md5$" + hashlib.md5(text).hexdigest() if by_md5 else "$sha1$" + hashlib.sha1(text).hexdigest()
+
+
 def main(words):
-    whole = "--whole" in words
-    words = [it for it in words if it != "--whole"]
+    whole, by_md5 = "--whole" in words, "--md5" in words
+    words = [it for it in words if it not in ("--whole", "--md5")]
     without = None
     if "--without" in words:
         at = words.index("--without")
@@ -86,7 +90,7 @@ def main(words):
         line = f"{path_word(path)} {nodes[path]} {rev} {path_word(repos_path)}"
         if nodes[path] == "file":
             text = said("svnlook", "cat", "-r", rev, repository, repos_path)
-            line += " " + (word(text) if whole else "$sha1$" + hashlib.sha1(text).hexdigest())
+            line += " " + (word(text) if whole else stand_in(text, by_md5))
         return [line] + [f"{path_word(path)} prop {name} {word(value)}" for name, value in sorted(props.get(path, {}).items())]
 
     with ThreadPoolExecutor(2) as pool:

@@ -8,7 +8,7 @@ use Rattle.svn_dump.specs.declared.record.Record.{Record}
 use Rattle.svn_dump.specs.declared.record.Record.TheVariants.{Other, Revision, Node}
 use Rattle.svn_dump.specs.declared.sections.Limits.{Limits}
 use Rattle.svn_dump.specs.declared.sections.Texts.{Texts}
-use Rattle.svn_dump.specs.declared.sections.Texts.TheVariants.{Whole, Sha1}
+use Rattle.svn_dump.specs.declared.sections.Texts.TheVariants.{Whole, Sha1, Md5}
 use Rattle.svn_dump.specs.Reading.{◌>>=◌}
 use Rattle.svn_dump.specs.Fields.{as_number}
 use Rattle.svn_dump.specs.Sections.{after_sections}
@@ -146,6 +146,7 @@ whole_records (r ∷ records) = ap₂ (λ (x : Record) (l : List Record). x ∷ 
 pub kept_ones : (texts : Texts) (records : List Record) → map (kept_record texts) records ≡ kept_records texts records
 kept_ones Whole records = whole_records records
 kept_ones Sha1 records = refl
+kept_ones Md5 records = refl
 
 pub records_read : (limits : Limits) (texts : Texts) (records : List Record) → header_room ≤ limits.headers
     → All (IsWritableRecord limits texts) records

@@ -10,7 +10,7 @@ use Rattle.svn_dump.specs.declared.record.Record.TheVariants.{Other, Revision, N
 use Rattle.svn_dump.specs.declared.record.TextSection.{TextSection}
 use Rattle.svn_dump.specs.declared.sections.Limits.{Limits}
 use Rattle.svn_dump.specs.declared.sections.Texts.{Texts}
-use Rattle.svn_dump.specs.declared.sections.Texts.TheVariants.{Whole, Sha1}
+use Rattle.svn_dump.specs.declared.sections.Texts.TheVariants.{Whole, Sha1, Md5}
 use Rattle.svn_dump.specs.Reading.{◌>>=◌}
 use Rattle.svn_dump.specs.Blocks.{block_at}
 use Rattle.svn_dump.specs.Fields.{number_value}
@@ -97,6 +97,7 @@ module _ (headers : List Header) (are : AllByRecursion IsHeader headers) where
       kept_some : (texts : Texts) (t : TextSection) → Some (kept_section texts t) ≡ kept_text texts (Some t)
       kept_some Whole t = refl
       kept_some Sha1 t = refl
+      kept_some Md5 t = refl
 
       text_read : (texts : Texts) (own : Option (List ℕ)) (o : Option TextSection) → IsGiven (IsTextOf h.changes_text h.base h.sums) own o
           → IfSome o (CanKeep texts limits.text)
@@ -109,6 +110,7 @@ module _ (headers : List Header) (are : AllByRecursion IsHeader headers) where
           }) texts limits.text) (unwrap_or own [] ++ rest) ≡ Ok (kept_text texts o, rest)
       text_read Whole None None is fit = refl
       text_read Sha1 None None is fit = refl
+      text_read Md5 None None is fit = refl
       text_read texts None (Some t) is fit = absurd is
       text_read texts (Some own) None is fit = absurd is
       text_read texts (Some own) (Some t) is fit =

@@ -12,7 +12,7 @@ use Rattle.svn_dump.specs.declared.record.Record.TheVariants.{Other, Revision, N
 use Rattle.svn_dump.specs.declared.record.TextSection.{TextSection}
 use Rattle.svn_dump.specs.declared.sections.Limits.{Limits}
 use Rattle.svn_dump.specs.declared.sections.Texts.{Texts}
-use Rattle.svn_dump.specs.declared.sections.Texts.TheVariants.{Whole, Sha1}
+use Rattle.svn_dump.specs.declared.sections.Texts.TheVariants.{Whole, Sha1, Md5}
 use Rattle.svn_dump.specs.Reading.{◌>>=◌}
 use Rattle.svn_dump.specs.Blocks.{block_at}
 use Rattle.svn_dump.specs.Headers.{header_value, are_headers}
@@ -185,6 +185,7 @@ kept_given : (texts : Texts) (flag : Bool) (base sums : Sums) (own : Option (Lis
     → IsGiven (KeptText texts flag base sums) own o → KeptGiven texts flag base sums own o
 kept_given Whole flag base sums None None h = record { whole = None; is = tt; kept_is = refl }
 kept_given Sha1 flag base sums None None h = record { whole = None; is = tt; kept_is = refl }
+kept_given Md5 flag base sums None None h = record { whole = None; is = tt; kept_is = refl }
 kept_given texts flag base sums None (Some t) h = absurd h
 kept_given texts flag base sums (Some own) None h = absurd h
 kept_given texts flag base sums (Some own) (Some t) h =
@@ -193,6 +194,7 @@ kept_given texts flag base sums (Some own) (Some t) h =
     by : (texts : Texts) (t : TextSection) → Some (kept_section texts t) ≡ kept_text texts (Some t)
     by Whole t = refl
     by Sha1 t = refl
+    by Md5 t = refl
 
 -- the node as it was written, with what else its headers say
 record NodeRead (texts : Texts) (headers : List Header) (bytes : List ℕ) (what : Record) (rest : List ℕ) : Type 0 where

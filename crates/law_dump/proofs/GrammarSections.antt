@@ -6,13 +6,14 @@ use Rattle.std.proofs.lemmas.List.{take-append-drop, length-take-le}
 use Rattle.md5.specs.Md5.{md5}
 use Rattle.sha1.specs.Sha1.{sha1}
 use Rattle.svn_lists.proofs.Equality.{same_bytes, bytes_eq-same}
-use Rattle.svn_digits.specs.StandIns.{stand_in_of}
-use Rattle.svn_dump.specs.declared.fault.Reason.TheVariants.{CutOff, PropsTooLong, TextTooLong, NoSha1, WrongMd5, WrongSha1}
+use Rattle.svn_digits.specs.StandIns.{stand_in_of, stand_in_of_md5}
+use Rattle.svn_dump.specs.declared.fault.Reason.{Reason}
+use Rattle.svn_dump.specs.declared.fault.Reason.TheVariants.{CutOff, PropsTooLong, TextTooLong, NoSha1, NoMd5, WrongMd5, WrongSha1}
 use Rattle.svn_dump.specs.declared.record.PropSection.{PropSection}
 use Rattle.svn_dump.specs.declared.record.TextSection.{TextSection}
 use Rattle.svn_dump.specs.declared.record.TextSection.TheVariants as text
 use Rattle.svn_dump.specs.declared.sections.Texts.{Texts}
-use Rattle.svn_dump.specs.declared.sections.Texts.TheVariants.{Whole, Sha1}
+use Rattle.svn_dump.specs.declared.sections.Texts.TheVariants.{Whole, Sha1, Md5}
 use Rattle.svn_dump.specs.Reading.{◌>>=◌}
 use Rattle.svn_dump.specs.Blocks.{bytes_at}
 use Rattle.svn_dump.specs.Sections.{Read, if_given, skipped, after_sections, is_given_as, checked, kept, whole_text_at, stand_in_at, prop_section_of, sized_props_at, sized_text_at}
@@ -201,6 +202,18 @@ whole_found texts base sums n bytes t rest h =
     by : (texts : Texts) (own : List ℕ) → text.Whole (kept texts own) ≡ kept_section texts (text.Whole own)
     by Whole own = refl
     by Sha1 own = refl
+    by Md5 own = refl
+
+-- a delta in whose place is a stand-in, by the checksum that is given, or else by that of no bytes
+stand_in_found : (texts : Texts) (missing : Reason) (word_of : List ℕ → List ℕ) (none : List ℕ) (given : Option (List ℕ)) (base sums : Sums) (n : ℕ)
+    (bytes : List ℕ) (t : TextSection) (rest : List ℕ) → kept texts [] ≡ word_of none
+    → ((own : List ℕ) → text.Whole (word_of (unwrap_or given none)) ≡ kept_section texts (delta_of base sums own))
+    → stand_in_at texts missing (option_map word_of given) n bytes ≡ Ok (t, rest) → TextFound texts true base sums n bytes t rest
+stand_in_found texts missing word_of none None base sums n bytes t rest empty same h =
+    let short = ok_second (nat_lt 4 n) missing (bytes_at n bytes >>= as_text (λ own. text.Whole (kept texts []))) (t, rest) h in
+    delta_found texts base sums n bytes (λ own. text.Whole (kept texts [])) t rest (λ own. ap text.Whole empty ∙ same own) short.1
+stand_in_found texts missing word_of none (Some sum) base sums n bytes t rest empty same h =
+    delta_found texts base sums n bytes (λ own. text.Whole (word_of sum)) t rest same h
 
 pub sized_text_found : (texts : Texts) (props len : Option ℕ) (changes_props flag : Bool) (base sums : Sums) (limit n : ℕ) (bytes : List ℕ)
     (t : TextSection) (rest : List ℕ)
@@ -216,20 +229,15 @@ unfolding TextFound
 sized_text_found Whole props len changes_props true base sums limit n bytes t rest h =
     let fits = ok_second (nat_lt limit n) (TextTooLong n limit) (bytes_at n bytes >>= as_text (delta_of base sums)) (t, rest) h in
     delta_found Whole base sums n bytes (delta_of base sums) t rest (λ own. refl) fits.1
-sized_text_found Sha1 props len changes_props true base sums limit n bytes t rest h = by sums.sha1 refl h
-  where
-    by : (sum : Option (List ℕ)) → sums.sha1 ≡ sum → stand_in_at sum n bytes ≡ Ok (t, rest) → TextFound Sha1 true base sums n bytes t rest
-    by None e k =
-        let short = ok_second (nat_lt 4 n) NoSha1 (bytes_at n bytes >>= as_text (λ own. text.Whole (kept Sha1 []))) (t, rest) k in
-        delta_found Sha1 base sums n bytes (λ own. text.Whole (kept Sha1 [])) t rest
-        (λ own. ap (λ (o : Option (List ℕ)). text.Whole (stand_in_of (unwrap_or o (sha1 [])))) (sym e)) short.1
-    by (Some sum) e k =
-        delta_found Sha1 base sums n bytes (λ own. text.Whole (stand_in_of sum)) t rest
-        (λ own. ap (λ (o : Option (List ℕ)). text.Whole (stand_in_of (unwrap_or o (sha1 [])))) (sym e)) k
+sized_text_found Sha1 props len changes_props true base sums limit n bytes t rest h =
+    stand_in_found Sha1 NoSha1 stand_in_of (sha1 []) sums.sha1 base sums n bytes t rest refl (λ own. refl) h
+sized_text_found Md5 props len changes_props true base sums limit n bytes t rest h =
+    stand_in_found Md5 NoMd5 stand_in_of_md5 (md5 []) sums.md5 base sums n bytes t rest refl (λ own. refl) h
 sized_text_found Whole props len changes_props false base sums limit n bytes t rest h =
     let all = whole_text_at Whole (record { md5 = sums.md5; sha1 = sums.sha1 }) n bytes >>= as_text text.Whole in
     whole_found Whole base sums n bytes t rest (ok_second (nat_lt limit n) (TextTooLong n limit) all (t, rest) h).1
 sized_text_found Sha1 props len changes_props false base sums limit n bytes t rest h = whole_found Sha1 base sums n bytes t rest h
+sized_text_found Md5 props len changes_props false base sums limit n bytes t rest h = whole_found Md5 base sums n bytes t rest h
 
 -- ---- sections of the grammar are read
 
@@ -274,6 +282,21 @@ text_given : (texts : Texts) (sums : Sums) (own : List ℕ) (rest : List ℕ) �
     ≡ Ok (kept_section texts (text.Whole own), rest)
 text_given Whole sums own rest e f = rw (cut_whole own rest, sum_given sums.md5 (md5 own) e, sum_given sums.sha1 (sha1 own) f) refl
 text_given Sha1 sums own rest e f = rw (cut_whole own rest, sum_given sums.md5 (md5 own) e, sum_given sums.sha1 (sha1 own) f) refl
+text_given Md5 sums own rest e f = rw (cut_whole own rest, sum_given sums.md5 (md5 own) e, sum_given sums.sha1 (sha1 own) f) refl
+
+-- a delta in whose place is a stand-in
+stand_in_given : (texts : Texts) (missing : Reason) (word_of : List ℕ → List ℕ) (none : List ℕ) (given : Option (List ℕ)) (own rest : List ℕ)
+    → kept texts [] ≡ word_of none → MatchOption given (length own ≤ 4) (λ _. Unit {0})
+    → stand_in_at texts missing (option_map word_of given) (length own) (own ++ rest) ≡ Ok (text.Whole (word_of (unwrap_or given none)), rest)
+stand_in_given texts missing word_of none None own rest empty few = rw (le-ltb 4 (length own) few, cut_whole own rest, empty) refl
+stand_in_given texts missing word_of none (Some sum) own rest empty few = rw (cut_whole own rest) refl
+
+-- a delta that can be replaced, with its bytes and its checksum as they are given
+few_given : (delta own : List ℕ) (sum given : Option (List ℕ)) → delta ≡ own → sum ≡ given → MatchOption sum (length delta ≤ 4) (λ _. Unit {0})
+    → MatchOption given (length own ≤ 4) (λ _. Unit {0})
+few_given delta own sum given e f few =
+    subst (λ (l : List ℕ). MatchOption given (length l ≤ 4) (λ _. Unit {0})) e
+    (subst (λ (o : Option (List ℕ)). MatchOption o (length delta ≤ 4) (λ _. Unit {0})) f few)
 
 pub sized_text_given : (texts : Texts) (props len : Option ℕ) (changes_props flag : Bool) (base sums : Sums) (limit : ℕ) (own : List ℕ)
     (whole : TextSection) (rest : List ℕ) → IsTextOf flag base sums own whole → CanKeep texts limit whole
@@ -290,17 +313,17 @@ sized_text_given texts props len changes_props false base sums limit own (text.D
 sized_text_given Whole props len changes_props true base sums limit own (text.Delta delta) rest h fits =
     let short = le-ltb limit (length own) (subst (λ (l : List ℕ). length l ≤ limit) h.0 fits) in
     rw (short, cut_whole own rest) (rw (sym h.0, sym h.1, sym h.2, sym h.3, sym h.4) refl)
-sized_text_given Sha1 props len changes_props true base sums limit own (text.Delta delta) rest h fits = by delta.sha1 (sym h.4) fits
-  where
-    by : (sum : Option (List ℕ)) → sums.sha1 ≡ sum → MatchOption sum (length delta.delta ≤ 4) (λ _. Unit {0})
-        → stand_in_at sums.sha1 (length own) (own ++ rest) ≡ Ok (text.Whole (stand_in_of (unwrap_or sum (sha1 []))), rest)
-    by None e few =
-        let short = le-ltb 4 (length own) (subst (λ (l : List ℕ). length l ≤ 4) h.0 few) in
-        rw (e, short, cut_whole own rest) refl
-    by (Some sum) e few = rw (e, cut_whole own rest) refl
+sized_text_given Sha1 props len changes_props true base sums limit own (text.Delta delta) rest h fits =
+    stand_in_given Sha1 NoSha1 stand_in_of (sha1 []) sums.sha1 own rest refl (few_given delta.delta own delta.sha1 sums.sha1 h.0 h.4 fits)
+    ∙ ap (λ (o : Option (List ℕ)). Ok (text.Whole (stand_in_of (unwrap_or o (sha1 []))), rest)) (sym h.4)
+sized_text_given Md5 props len changes_props true base sums limit own (text.Delta delta) rest h fits =
+    stand_in_given Md5 NoMd5 stand_in_of_md5 (md5 []) sums.md5 own rest refl (few_given delta.delta own delta.md5 sums.md5 h.0 h.3 fits)
+    ∙ ap (λ (o : Option (List ℕ)). Ok (text.Whole (stand_in_of_md5 (unwrap_or o (md5 []))), rest)) (sym h.3)
 sized_text_given Whole props len changes_props false base sums limit own (text.Whole bytes) rest h fits =
     let short = le-ltb limit (length own) (subst (λ (l : List ℕ). length l ≤ limit) h.0 fits) in
     rw short (text_given Whole sums own rest h.1 h.2)
     ∙ ap (λ (l : List ℕ). Ok (kept_section Whole (text.Whole l), rest)) (sym h.0)
 sized_text_given Sha1 props len changes_props false base sums limit own (text.Whole bytes) rest h fits =
     text_given Sha1 sums own rest h.1 h.2 ∙ ap (λ (l : List ℕ). Ok (kept_section Sha1 (text.Whole l), rest)) (sym h.0)
+sized_text_given Md5 props len changes_props false base sums limit own (text.Whole bytes) rest h fits =
+    text_given Md5 sums own rest h.1 h.2 ∙ ap (λ (l : List ℕ). Ok (kept_section Md5 (text.Whole l), rest)) (sym h.0)

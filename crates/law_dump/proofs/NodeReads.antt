@@ -15,7 +15,7 @@ use Rattle.svn_dump.specs.declared.record.TextSection.{TextSection}
 use Rattle.svn_dump.specs.declared.record.TextSection.TheVariants as text
 use Rattle.svn_dump.specs.declared.sections.Limits.{Limits}
 use Rattle.svn_dump.specs.declared.sections.Texts.{Texts}
-use Rattle.svn_dump.specs.declared.sections.Texts.TheVariants.{Whole, Sha1}
+use Rattle.svn_dump.specs.declared.sections.Texts.TheVariants.{Whole, Sha1, Md5}
 use Rattle.svn_dump.specs.Reading.{◌>>=◌}
 use Rattle.svn_dump.specs.Headers.{header_value}
 use Rattle.svn_dump.specs.Fields.{path_of, kind_of, action_of, source_value, as_number}
@@ -168,10 +168,13 @@ text_read : (texts : Texts) (section : Option TextSection) (props text : Option 
     ≡ Ok (kept_text texts section, rest)
 text_read Whole None props text delta limit rest fits = refl
 text_read Sha1 None props text delta limit rest fits = refl
+text_read Md5 None props text delta limit rest fits = refl
 text_read Whole (Some section) props text delta limit rest fits =
     ap (λ r. r >>= λ read. Ok (Some read.0, read.1)) (sized_text_read Whole section props text delta limit rest fits)
 text_read Sha1 (Some section) props text delta limit rest fits =
     ap (λ r. r >>= λ read. Ok (Some read.0, read.1)) (sized_text_read Sha1 section props text delta limit rest fits)
+text_read Md5 (Some section) props text delta limit rest fits =
+    ap (λ r. r >>= λ read. Ok (Some read.0, read.1)) (sized_text_read Md5 section props text delta limit rest fits)
 
 -- ---- the record
 

@@ -8,6 +8,7 @@ use Rattle.std.specs.Prelude.{◌≡◌, ℕ, ◌+◌, ◌^◌, ◌<◌, ◌≤�
 use Rattle.std.specs.List.{flat_map}
 use Rattle.std.specs.Map.{keys_of}
 use Rattle.hex.specs.Hex.{IsBytes}
+use Rattle.md5.specs.Md5.{md5}
 use Rattle.sha1.specs.Sha1.{sha1}
 use Rattle.svn_types.specs.Names.{Path, IsName, IsPropName, depth_limit}
 use Rattle.svn_types.specs.Pairs.{InNameOrder}
@@ -22,9 +23,9 @@ use Rattle.svn_dump.specs.declared.record.TextSection.{TextSection}
 use Rattle.svn_dump.specs.declared.record.TextSection.TheVariants as text
 use Rattle.svn_dump.specs.declared.sections.Limits.{Limits}
 use Rattle.svn_dump.specs.declared.sections.Texts.{Texts}
-use Rattle.svn_dump.specs.declared.sections.Texts.TheVariants.{Whole, Sha1}
+use Rattle.svn_dump.specs.declared.sections.Texts.TheVariants.{Whole, Sha1, Md5}
 use Rattle.svn_dump.specs.Records.{record_at, format_at}
-use Rattle.svn_digits.specs.StandIns.{stand_in, stand_in_of}
+use Rattle.svn_digits.specs.StandIns.{stand_in, stand_in_of, md5_stand_in, stand_in_of_md5}
 use Rattle.svn_dump.specs.Written.{text_bytes, prop_section, text_section, headers_of, written, revision_record, format_record}
 use Rattle.law_dump.specs.Grammar.{IsRecord, AreRecords, IsDumpOf, ended, header_lines}
 
@@ -54,11 +55,13 @@ IsTextSection (text.Whole bytes) = Unit {0}
 IsTextSection (text.Delta delta) =
     IfSome delta.base_md5 (IsSum 16) × IfSome delta.base_sha1 (IsSum 20) × IfSome delta.md5 (IsSum 16) × IfSome delta.sha1 (IsSum 20)
 
--- A text that is kept is within the limit. Where texts have stand-ins, a text delta comes with its SHA-1 checksum, or is that of no bytes.
+-- A text that is kept is within the limit. Where texts have stand-ins, a text delta comes with the checksum that they are made of, or is that of no bytes.
 abbrev pub CanKeep : Texts → ℕ → TextSection → Type 0
 CanKeep Whole limit section = length (text_bytes section) ≤ limit
 CanKeep Sha1 limit (text.Whole bytes) = Unit {0}
 CanKeep Sha1 limit (text.Delta delta) = MatchOption delta.sha1 (length delta.delta ≤ 4) (λ sum. Unit {0})
+CanKeep Md5 limit (text.Whole bytes) = Unit {0}
+CanKeep Md5 limit (text.Delta delta) = MatchOption delta.md5 (length delta.delta ≤ 4) (λ sum. Unit {0})
 
 -- how long the sections of a node are
 abbrev pub props_len : NodeRecord → ℕ
@@ -90,10 +93,13 @@ abbrev pub kept_section : Texts → TextSection → TextSection
 kept_section Whole section = section
 kept_section Sha1 (text.Whole bytes) = text.Whole (stand_in bytes)
 kept_section Sha1 (text.Delta delta) = text.Whole (stand_in_of (unwrap_or delta.sha1 (sha1 [])))
+kept_section Md5 (text.Whole bytes) = text.Whole (md5_stand_in bytes)
+kept_section Md5 (text.Delta delta) = text.Whole (stand_in_of_md5 (unwrap_or delta.md5 (md5 [])))
 
 abbrev pub kept_text : Texts → Option TextSection → Option TextSection
 kept_text Whole section = section
 kept_text Sha1 section = option_map (kept_section Sha1) section
+kept_text Md5 section = option_map (kept_section Md5) section
 
 abbrev pub kept_node : Texts → NodeRecord → NodeRecord
 kept_node texts node =
@@ -158,6 +164,7 @@ kept_record texts (Node node) = Node (kept_node texts node)
 abbrev pub kept_records : Texts → List Record → List Record
 kept_records Whole records = records
 kept_records Sha1 records = map (kept_record Sha1) records
+kept_records Md5 records = map (kept_record Md5) records
 
 -- reading record after record gives these, and then the end
 abbrev pub IsReadAs : Limits → Texts → List ℕ → List Record → Type 0

@@ -1,5 +1,5 @@
 -- Drives that are made to their end, and why others aren't.
-use Rattle.std.proofs.Common.{◌≡◌, ℕ, zero, suc, ◌+◌, ◌<◌, List, [], ◌∷◌, ◌++◌, length, append-nil, append_assoc, refl, sym, ap, subst, ⊎_elim, ◌∙◌}
+use Rattle.std.proofs.Common.{◌≡◌, ℕ, zero, suc, ◌+◌, ◌<◌, List, [], ◌∷◌, ◌++◌, length, append-nil, append_assoc, refl, sym, ap, subst, ⊎_elim, inl, inr, ◌∙◌}
 use Rattle.std.specs.Prelude.{◌≢◌, ◌⊎◌, Option, Some, None, Result, Ok, Err}
 use Rattle.svn_editor.specs.declared.call.Call.{Call}
 use Rattle.svn_editor.specs.declared.fault.EditFault.{EditFault}
@@ -69,6 +69,13 @@ module _ {E : Type 0} (answers : E → Call → Result (Unit {0}) EditFault → 
       (λ (u : Whole fault calls x e f ⊎ Stops fault calls x e f).
       ⊎_elim (λ (t : Whole fault calls x e f). t.2)
       (λ (t : Stops fault calls x e f). absurd (never_stopped t.0 t.1 calls e t.2 x t.4 t.5)) u) drove
+
+  -- a drive that ends without a fault has a target
+  pub has_target : (limit : Option ℕ) (fault : Option DriveFault) (calls : List Call) (x : DriveEnd) (e f : E)
+      → Drives answers limit fault calls (ended x) e f → fault ≡ None
+  has_target limit fault calls x e f (inl early) = absurd early.1
+  has_target limit fault calls x e f (inr (inl whole)) = whole.1
+  has_target limit fault calls x e f (inr (inr stop)) = stop.3
 
   -- a call that is refused, after those that were accepted
   pub record RefusedCall (calls : List Call) (e : E) (why : EditFault) : Type 0 where

@@ -1,7 +1,7 @@
 -- Histories, loaded from dumps.
-use Rattle.std.proofs.Common.{◌≡◌, ℕ, List, ◌∙◌, refl, sym, ap, subst, Option, None, Some, Ok}
+use Rattle.std.proofs.Common.{◌≡◌, ℕ, ◌+◌, ◌<◌, ◌^◌, List, length, arith, ◌∙◌, refl, sym, ap, subst, false, Option, None, Some, Result, Ok}
 use Rattle.std.specs.Prelude.{Err}
-use Rattle.std.specs.Prelude.{MatchOption}
+use Rattle.std.specs.Prelude.{MatchOption, codes}
 use Rattle.std.specs.Option.{option_or}
 use Rattle.svn_repo.specs.History.{History}
 use Rattle.svn_dump.specs.declared.fault.DumpFault.{DumpFault}
@@ -10,19 +10,25 @@ use Rattle.svn_dump.specs.declared.reader.Reader.{Reader}
 use Rattle.svn_dump.specs.declared.sections.Limits.{Limits}
 use Rattle.svn_dump.specs.declared.sections.Texts.{Texts}
 use Rattle.svn_dump.specs.Reading.{Fails}
-use Rattle.svn_dump.specs.Readers.{left_in, Opens, Shows}
+use Rattle.svn_dump.specs.declared.fault.Reason.{Reason}
+use Rattle.svn_dump.specs.Blocks.{block_at}
+use Rattle.svn_dump.specs.Counts.{OfAll, Counts}
+use Rattle.svn_dump.specs.Headers.{header_value, if_once}
+use Rattle.svn_dump.specs.Readers.{left_in, headers_len, found_headers, after_headers, Opens, Shows}
 use Rattle.svn_dump.specs.Records.{format_at}
 use Rattle.svn_history.specs.declared.loader.Loader.{Loader}
 use Rattle.svn_history.specs.declared.fault.LoadFault.{LoadFault}
 use Rattle.svn_history.specs.declared.fault.LoadFault.TheVariants.{Memory}
+use Rattle.svn_history.specs.Places.{AreHeaders, IsShown}
 use Rattle.svn_history.specs.Parts.{Loading, RefusesAll, loading}
+use Rattle.svn_history.proofs.Places.{all_refused_at}
 use Rattle.svn_history.specs.Results.{of_dump}
 use Rattle.svn_history.specs.Steps.{Draft, draft_of, begun}
 use Rattle.svn_history.specs.Loading.{LoadsDump}
 use Rattle.svn_history.specs.Fronts.{HasFront, FrontLoaded, uuid_in, uuid_at, given_uuid}
 use Rattle.svn_answers.specs.declared.loaded.DumpRefusal.{DumpRefusal}
 use Rattle.svn_answers.specs.declared.loaded.Loaded.{Loaded}
-use Rattle.svn_answers.specs.Loadings.{BeginsDump, HasFrontAfter, IsReady, IsLoaded, IsAtFront, IsAtRecord, IsRefusalOf, IsFrontRefusal, IsLaterRefusal, IsDumpRefusal, at_record, out_of_memory, in_front, later, from_start}
+use Rattle.svn_answers.specs.Loadings.{BeginsDump, HasFrontAfter, IsReady, IsLoaded, IsAtFront, IsAtRecord, IsRefusalOf, IsFrontRefusal, IsAtHeaders, IsPlace, IsLaterRefusal, IsDumpRefusal, at_record, out_of_memory, in_front, later, from_start}
 
 -- a reader that was made has read the first record
 pub begins_by : {R : Type 0} (remaining : R → Option (List ℕ)) (limits : Limits) (input : Option (List ℕ)) (reader : Reader R)
@@ -71,22 +77,51 @@ module _ {R : Type 0} (remaining : R → Option (List ℕ)) (limits : Limits) (t
         front = front_by input loaded ready front;
       }
 
-  -- what a loader refuses that was given nothing but the first record
-  pub later_by : (input : Option (List ℕ)) (e : LoadFault) (h : History) → IsReady remaining limits texts input loader
-      → RefusesAll loader.records.limits loader.records.texts (loading remaining loader) e h → IsLaterRefusal limits texts input e
-  later_by input e h ready refuses =
-      let left : Option (List ℕ) = left_in remaining loader.records in
-      let started : loading remaining loader ≡ from_start left =
-      (λ i. record { rev = ready.no_rev i; draft = ready.fresh i; left = left }) in
-      record {
-        left = left;
-        begins = ready.begins;
-        history = h;
-        why =
-            subst (λ (l : Loading). RefusesAll limits texts l e h) started
-            (subst (λ (t : Texts). RefusesAll limits t (loading remaining loader) e h) ready.texts_are
-            (subst (λ (l : Limits). RefusesAll l loader.records.texts (loading remaining loader) e h) ready.limits_are refuses));
-      }
+  -- where the record is that was read last, as the loader shows it after
+  module _ (new : Loader R) (refusal : DumpRefusal) (input : Option (List ℕ)) (here : IsAtRecord new refusal) where
+    measured : (input : Option (List ℕ)) (bytes : List ℕ) (found : Result (List ℕ × List ℕ) Reason)
+        → Counts 0 input loader.records.source.taken (left_in remaining loader.records)
+        → AreHeaders loader.records.source.taken (left_in remaining loader.records) new.records.begun new.records.block.items bytes found
+        → MatchOption input (Unit {0})
+        (λ dump. length dump < 2 ^ 64 → refusal.byte + headers_len (found_headers found) + length (after_headers bytes found) ≡ length dump)
+    unfolding OfAll
+    measured None bytes found counted shown = tt
+    measured (Some dump) bytes found counted shown = λ small.
+        let all : 0 + length dump ≡ length dump = omega arith in
+        ap (λ (n : ℕ). n + headers_len (found_headers found) + length (after_headers bytes found)) here.byte
+        ∙ shown.1 (length dump) (counted (length dump) (all, small))
+
+    place_by : IsReady remaining limits texts input loader → (rev : Option ℕ) (bytes : List ℕ) → IsShown remaining loader new rev bytes
+        → IsPlace limits input refusal rev bytes
+    place_by ready rev bytes shown =
+        let found : Limits → Result (List ℕ × List ℕ) Reason = λ l. block_at false l.headers bytes in (
+          here.rev ∙ shown.0,
+          subst (λ (l : Limits). IsAtHeaders input refusal bytes (block_at false l.headers bytes)) ready.limits_are (
+            here.path ∙ ap (λ (b : List ℕ). if_once (header_value b (codes "Node-path"))) shown.1.0,
+            measured input bytes (found loader.records.limits) ready.counted shown.1,
+          ),
+        )
+
+    -- what a loader refuses that was given nothing but the first record
+    pub later_by : (h : History) → IsReady remaining limits texts input loader
+        → RefusesAll loader.records.limits loader.records.texts (IsShown remaining loader new) (loading remaining loader) refusal.fault h
+        → IsLaterRefusal limits texts input refusal
+    later_by h ready refuses =
+        let left : Option (List ℕ) = left_in remaining loader.records in
+        let e : LoadFault = refusal.fault in
+        let at = IsShown remaining loader new in
+        let started : loading remaining loader ≡ from_start left =
+        (λ i. record { rev = ready.no_rev i; draft = ready.fresh i; left = left }) in
+        record {
+          left = left;
+          begins = ready.begins;
+          history = h;
+          why =
+              all_refused_at limits texts at (IsPlace limits input refusal) (place_by ready) (from_start left) e h
+              (subst (λ (l : Loading). RefusesAll limits texts at l e h) started
+              (subst (λ (t : Texts). RefusesAll limits t at (loading remaining loader) e h) ready.texts_are
+              (subst (λ (l : Limits). RefusesAll l loader.records.texts at (loading remaining loader) e h) ready.limits_are refuses)));
+        }
 
 -- ---- refusals
 
@@ -104,9 +139,13 @@ module _ (limits : Limits) (texts : Texts) where
   memory_in_front input refusal at = record { fault = dump.Memory; at_front = at; why = no_bytes input }
 
   -- what is reported of a loader that refused
-  pub refusal_by : {R : Type 0} (input : Option (List ℕ)) (loader : Loader R) (refusal : DumpRefusal) (e : LoadFault) → loader.refused ≡ Some e
-      → IsLaterRefusal limits texts input e → IsRefusalOf loader refusal → IsDumpRefusal limits texts input refusal
-  refusal_by input loader refusal e is refused (at_record r) =
-      let same : e ≡ refusal.fault = (let given : loader.refused ≡ Some refusal.fault = r.fault in cc) in
-      later (subst (λ (x : LoadFault). IsLaterRefusal limits texts input x) same refused)
-  refusal_by input loader refusal e is refused (out_of_memory m) = in_front (memory_in_front input refusal m)
+  pub refusal_by : {R : Type 0} (remaining : R → Option (List ℕ)) (input : Option (List ℕ)) (loader new : Loader R) (refusal : DumpRefusal)
+      (e : LoadFault) (h : History) → new.refused ≡ Some e → IsReady remaining limits texts input loader
+      → RefusesAll loader.records.limits loader.records.texts (IsShown remaining loader new) (loading remaining loader) e h
+      → IsRefusalOf new refusal → IsDumpRefusal limits texts input refusal
+  refusal_by remaining input loader new refusal e h is ready refuses (at_record r) =
+      let same : e ≡ refusal.fault = (let given : new.refused ≡ Some refusal.fault = r.fault in cc) in
+      later (later_by remaining limits texts loader new refusal input r h ready
+      (subst (λ (x : LoadFault). RefusesAll loader.records.limits loader.records.texts (IsShown remaining loader new) (loading remaining loader) x h)
+      same refuses))
+  refusal_by remaining input loader new refusal e h is ready refuses (out_of_memory m) = in_front (memory_in_front input refusal m)

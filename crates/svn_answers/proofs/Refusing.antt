@@ -1,6 +1,6 @@
 -- Why nothing is told of a copy.
 use Rattle.std.proofs.Common.{◌≡◌, ◌∙◌, ℕ, List, [], refl, sym, ap, subst, ⊎_elim, inl, inr}
-use Rattle.std.specs.Prelude.{◌⊎◌, Option, Some, None, Result, Ok, Err}
+use Rattle.std.specs.Prelude.{Option, None, Result, Ok, Err}
 use Rattle.svn_types.specs.Names.{Path}
 use Rattle.svn_repo.specs.History.{History}
 use Rattle.svn_editor.specs.declared.call.Call.{Call}
@@ -22,8 +22,8 @@ use Rattle.svn_drive.specs.declared.request.Request.{Request}
 use Rattle.svn_drive.specs.Requests.{input_of, drive_for}
 use Rattle.svn_answers.specs.declared.topic.TopicFault.{TopicFault}
 use Rattle.svn_answers.specs.declared.topic.TopicFault.TheVariants.{Drive, Memory}
-use Rattle.svn_answers.specs.Topics.{update_to, calls_to, of_drive, AreLeft, IsUndriven, bad_target, too_many, IsRefusedCall, IsCallsFault, IsNodesFault}
-use Rattle.svn_answers.proofs.Driving.{WhyStopped, RefusedCall, why_stopped}
+use Rattle.svn_answers.specs.Topics.{update_to, calls_to, of_drive, AreLeft, bad_target, too_many, IsCallsFault, IsNodesFault}
+use Rattle.svn_answers.proofs.Driving.{WhyStopped, RefusedCall, has_target, why_stopped}
 use Rattle.svn_answers.proofs.Driving as stops
 use Rattle.svn_answers.proofs.Updating.{IsRefusal, Stands, left_by, refusal_by}
 
@@ -94,6 +94,9 @@ module _ (h : History) (nodes : List (Path × BaseNode)) (rev : Option ℕ) wher
     updates : (result : Result DriveEnd DriveFault) → DrivesTo report w result → Updates result
     updates result drove =
         subst (λ (v : Request). DrivesTo (crawl nodes) v result) asked (subst (λ (r : ReportView). DrivesTo r w result) reported drove)
+
+    pub target_is_there : (x : DriveEnd) → DrivesTo report w (Ok x) → target ≡ None
+    target_is_there x drove = has_target answers None target (calls_to h nodes rev) x e f (updates (Ok x) drove)
 
     -- into an editor that keeps the calls
     pub calls_refused : (x : DriveFault) → ((m n : E) (c : Call) (why : EditFault) → answers m c (Err why) n → why ≡ edit.Memory)

@@ -1,5 +1,5 @@
 -- A tree of the repository, node by node: its node first, and then what is below each entry, in order of their names. That is path order.
-use Rattle.std.proofs.Common.{◌≡◌, ℕ, ◌≤◌, Bool, true, false, cond, length, drop, List, [], ◌∷◌, ◌++◌, refl, sym, ap, subst, ◌∙◌, append_assoc, append-nil}
+use Rattle.std.proofs.Common.{◌≡◌, ℕ, Bool, true, false, cond, List, [], ◌∷◌, ◌++◌, refl, sym, ap, subst, ◌∙◌, append_assoc, append-nil}
 use Rattle.std.proofs.Common.{Option, Some, None, true≢false}
 use Rattle.std.specs.Prelude.{bytes_eq}
 use Rattle.std.specs.Option.{is_some, option_or, option_map, option_and_then}
@@ -17,7 +17,7 @@ use Rattle.svn_lists.proofs.Sorted.{sorted_nil, sorted_cons, sorted_one}
 use Rattle.svn_types.specs.Names.{Path, name_cmp, path_cmp}
 use Rattle.svn_types.specs.Paths.{path_eq, is_within}
 use Rattle.svn_types.specs.Pairs.{InNameOrder, value_of}
-use Rattle.svn_types.proofs.NameLemmas.{at_name, level_names}
+use Rattle.svn_types.proofs.NameLemmas.{level_names}
 use Rattle.svn_types.proofs.PathLemmas.{same_path, path_eq-same, path_eq-symm, path_eq-longer, split_within, within_append}
 use Rattle.svn_types.proofs.PathsInOrder.{at_path, below_after}
 use Rattle.svn_repo.specs.History.{History, look, node_at, walk}

@@ -1,8 +1,13 @@
 pub mod Lines
 pub mod Verdicts
 pub mod Notices
+pub mod PassedOver
+pub mod FaultTexts
 pub mod Topics
+pub mod NoticeLines
 pub mod Answers
 pub mod Journals
 pub mod Loadings
 pub mod Shown
+pub mod Laws
+pub mod Written

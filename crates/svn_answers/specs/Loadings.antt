@@ -2,8 +2,8 @@
 --     IsReady remaining limits texts input loader      a loader of a dump that was given nothing but the first record
 --     IsLoaded limits texts input loaded      the history of the bytes of a dump, where these are known, and what they say before their first revision
 --     IsRefusalOf loader refusal      what a loader refused, and where
---     IsDumpRefusal limits texts input refusal      why the bytes of a dump, where these are known, aren't loaded
-use Rattle.std.specs.Prelude.{◌≡◌, ℕ, List, Option, Some, None, Ok, MatchOption, codes}
+--     IsDumpRefusal limits texts input refusal      why the bytes of a dump, where these are known, aren't loaded, and where the record is that is refused
+use Rattle.std.specs.Prelude.{◌≡◌, ℕ, ◌+◌, ◌<◌, ◌^◌, false, List, length, Option, Some, None, Result, Ok, MatchOption, codes}
 use Rattle.svn_repo.specs.History.{History, new_history}
 use Rattle.svn_dump.specs.declared.fault.DumpFault.{DumpFault}
 use Rattle.svn_dump.specs.declared.sections.Limits.{Limits}
@@ -19,7 +19,10 @@ use Rattle.svn_history.specs.Parts.{Loading, RefusesAll}
 use Rattle.svn_history.specs.declared.fault.LoadFault.{LoadFault}
 use Rattle.svn_history.specs.declared.fault.LoadFault.TheVariants.{Memory}
 use Rattle.svn_history.specs.declared.loader.Loader.{Loader}
-use Rattle.svn_dump.specs.Readers.{left_in, Shows}
+use Rattle.svn_dump.specs.declared.fault.Reason.{Reason}
+use Rattle.svn_dump.specs.Blocks.{block_at}
+use Rattle.svn_dump.specs.Counts.{Counts}
+use Rattle.svn_dump.specs.Readers.{left_in, headers_len, found_headers, after_headers, Shows}
 use Rattle.svn_answers.specs.declared.loaded.DumpRefusal.{DumpRefusal}
 use Rattle.svn_answers.specs.declared.loaded.Loaded.{Loaded}
 
@@ -37,6 +40,7 @@ pub record IsReady {R : Type 0} (remaining : R → Option (List ℕ)) (limits : 
   pub no_first : loader.front.first ≡ None
   pub begins : MatchOption input (Unit {0}) (λ bytes. BeginsDump limits bytes (left_in remaining loader.records))
   pub shown : Shows limits 0 input loader.records.begun loader.records.block.items
+  pub counted : Counts 0 input loader.records.source.taken (left_in remaining loader.records)
 
 abbrev pub HasFrontAfter : Limits → Texts → List ℕ → Loaded → Option (List ℕ) → Type 0
 HasFrontAfter limits texts bytes loaded left =
@@ -78,13 +82,25 @@ pub record IsFrontRefusal (limits : Limits) (input : Option (List ℕ)) (refusal
 abbrev pub from_start : Option (List ℕ) → Loading
 from_start left = record { rev = None; draft = begun new_history; left = left }
 
--- the first fault after the first record
-pub record IsLaterRefusal (limits : Limits) (texts : Texts) (input : Option (List ℕ)) (fault : LoadFault) : Type 0 where
+-- of a dump that a count can measure: so many bytes are before the headers that are found, and the path is theirs; where none are found, so many are
+-- before these bytes
+abbrev pub IsAtHeaders : Option (List ℕ) → DumpRefusal → List ℕ → Result (List ℕ × List ℕ) Reason → Type 0
+IsAtHeaders input refusal bytes found =
+    (refusal.path ≡ if_once (header_value (found_headers found) (codes "Node-path")))
+    × MatchOption input (Unit {0})
+    (λ dump. length dump < 2 ^ 64 → refusal.byte + headers_len (found_headers found) + length (after_headers bytes found) ≡ length dump)
+
+-- the record that is refused is the one with which these bytes begin, read while this revision was the last that began
+abbrev pub IsPlace : Limits → Option (List ℕ) → DumpRefusal → Option ℕ → List ℕ → Type 0
+IsPlace limits input refusal rev bytes = (refusal.rev ≡ rev) × IsAtHeaders input refusal bytes (block_at false limits.headers bytes)
+
+-- the first fault after the first record, and its place, where it isn't one that no bytes have
+pub record IsLaterRefusal (limits : Limits) (texts : Texts) (input : Option (List ℕ)) (refusal : DumpRefusal) : Type 0 where
   pub left : Option (List ℕ)
   pub begins : MatchOption input (Unit {0}) (λ bytes. BeginsDump limits bytes left)
   pub history : History
-  pub why : RefusesAll limits texts (from_start left) fault history
+  pub why : RefusesAll limits texts (IsPlace limits input refusal) (from_start left) refusal.fault history
 
 pub data IsDumpRefusal (limits : Limits) (texts : Texts) (input : Option (List ℕ)) (refusal : DumpRefusal) : Type 0 where
   in_front : IsFrontRefusal limits input refusal → IsDumpRefusal limits texts input refusal
-  later : IsLaterRefusal limits texts input refusal.fault → IsDumpRefusal limits texts input refusal
+  later : IsLaterRefusal limits texts input refusal → IsDumpRefusal limits texts input refusal

@@ -1,6 +1,8 @@
 -- What is printed of a working copy, but for the verdict on it.
 --     calls_to h nodes rev      the calls of an update of a copy to a revision, or to the newest
 --     AreLeft nodes calls left      these nodes are left of a copy's by the calls of an update, path by path
+--     AreOfTarget h nodes rev updated      these nodes are the target revision's, looked up through the path map of what the copy reports
+--     LeadsToTarget h nodes      the calls of each update of a true copy leave the nodes of its target
 --     IsTopicText h nodes topic text      this is what is printed
 --     IsTopicFault h nodes topic fault      why nothing is: out of memory, or why the update isn't made
 use Rattle.std.specs.Prelude.{◌≡◌, ◌⊎◌, ℕ, ◌+◌, ◌-◌, ◌<◌, false, List, [], ◌∷◌, ◌++◌, length, map, flat_map, Option, Some, None}
@@ -22,7 +24,9 @@ use Rattle.svn_model.specs.Checks.{target_fault}
 use Rattle.svn_model.specs.Crawl.{crawl}
 use Rattle.svn_model.specs.Effects.{after, refusal}
 use Rattle.svn_model.specs.Ends.{call_limit}
-use Rattle.svn_model.specs.Nodes.{get_in, InPathOrder}
+use Rattle.svn_model.specs.Follow.{DriveInput}
+use Rattle.svn_model.specs.Nodes.{get_in, InPathOrder, IsTrueOf}
+use Rattle.svn_model.specs.Result.{result}
 use Rattle.svn_drive.specs.declared.request.Request.{Request}
 use Rattle.svn_drive.specs.Requests.{requested, input_of, drive_for}
 use Rattle.svn_audit.specs.Lines.{update_lines}
@@ -58,10 +62,24 @@ pub record AreSortedLines (texts : List (List ℕ)) (text : List ℕ) : Type 0 w
 abbrev pub AreLeft : List (Path × BaseNode) → List Call → List (Path × BaseNode) → Type 0
 AreLeft nodes calls left = (p : Path) → get_in left p ≡ after modes.Update (get_in nodes) calls p
 
+-- what the copy reports, and where its update goes
+abbrev pub input_to : History → List (Path × BaseNode) → Option ℕ → DriveInput
+input_to h nodes rev = input_of h (crawl nodes) (update_to h rev)
+
+-- at each path the node that the target revision has where the path map leads
+abbrev pub AreOfTarget : History → List (Path × BaseNode) → Option ℕ → List (Path × BaseNode) → Type 0
+AreOfTarget h nodes rev updated = (p : Path) → get_in updated p ≡ result (input_to h nodes rev) p
+
+abbrev pub LeadsToTarget : History → List (Path × BaseNode) → Type 0
+LeadsToTarget h nodes =
+    IsTrueOf h (get_in nodes) → (rev : Option ℕ) → target_fault (input_to h nodes rev) ≡ None
+    → (p : Path) → after modes.Update (get_in nodes) (calls_to h nodes rev) p ≡ result (input_to h nodes rev) p
+
 -- the nodes after an update
 pub record AreUpdated (h : History) (nodes : List (Path × BaseNode)) (rev : Option ℕ) (text : List ℕ) : Type 0 where
   pub updated : List (Path × BaseNode)
   pub left : AreLeft nodes (calls_to h nodes rev) updated
+  pub target : IsTrueOf h (get_in nodes) → AreOfTarget h nodes rev updated
   pub in_order : InPathOrder updated
   pub lines : text ≡ copy_text updated
 
@@ -81,7 +99,7 @@ of_drive fault = Drive fault
 
 -- why no update can be driven: its target, or more calls than can be counted
 pub data IsUndriven (h : History) (nodes : List (Path × BaseNode)) (rev : Option ℕ) (fault : DriveFault) : Type 0 where
-  bad_target : target_fault (input_of h (crawl nodes) (update_to h rev)) ≡ Some fault → IsUndriven h nodes rev fault
+  bad_target : target_fault (input_to h nodes rev) ≡ Some fault → IsUndriven h nodes rev fault
   too_many : fault ≡ drives.Full → call_limit + 1 < length (calls_to h nodes rev) → IsUndriven h nodes rev fault
 
 -- the first call that the copy refuses, as the calls before have left it

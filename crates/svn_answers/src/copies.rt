@@ -1,5 +1,5 @@
 //! The working copies that words name, as a program opens them.
-ghost use Rattle.std.specs.Prelude.{ℕ, List, IfOk, OnOk};
+ghost use Rattle.std.specs.Prelude.{◌≡◌, ℕ, Bool, List, IfOk, OnOk};
 ghost use Rattle.svn_types.specs.Names.{Path};
 ghost use Rattle.svn_disk_audit.specs.Pristine.{Store};
 
@@ -32,8 +32,12 @@ pub trait Copies {
     // The database of the copy that a word names had these bytes as long as the copy was read.
     ghost stayed: { Self → List ℕ → List ℕ → Type 0 } = { λ _ _ _. Unit {0} };
 
+    // A fault is a failed allocation.
+    ghost lacks_memory: { Self → Self.Fault → Bool };
+
     /// Whether a fault is a failed allocation: then it isn't one of the copy.
-    fn is_memory(&self, fault: &Self::Fault) -> bool;
+    fn is_memory(&self, fault: &Self::Fault) -> bool
+        ensures { result ≡ lacks_memory self.now fault.now };
 
     /// Opens the copy that a word names, and reads its database.
     fn open(&self, name: &str) -> Result<Opened<Self::Examiner>, Self::Fault>

@@ -1,6 +1,7 @@
 //! The examination of a working copy: is it of the dump's repository?
 ghost use Rattle.std.specs.Option.{option_copied};
 ghost use Rattle.svn_disk_audit.specs.Repositories.{IsOfRepository};
+ghost use Rattle.svn_answers.specs.FaultTexts.{examiner_text};
 
 use std::alloc::Global;
 use std::fmt;
@@ -18,10 +19,12 @@ pub enum ExaminerFault<F> {
 }
 
 impl<F: fmt::Display> fmt::Display for ExaminerFault<F> {
+    ghost output = { examiner_text ⟦<RepositoryFault as fmt::Display>⟧.output F.output };
+
     fn fmt<W: fmt::Write>(&self, f: &mut fmt::Formatter<W>) -> fmt::Result {
         match self {
-            ExaminerFault::Repository(fault) => write!(f, "{fault}"),
-            ExaminerFault::Copy(fault) => write!(f, "{fault}"),
+            ExaminerFault::Repository(fault) => fault.fmt(f),
+            ExaminerFault::Copy(fault) => fault.fmt(f),
         }
     }
 }

@@ -1,4 +1,5 @@
 //! Why a question, or that of one copy, isn't answered.
+ghost use Rattle.svn_answers.specs.FaultTexts.{copy_fault_text, tell_text};
 
 use crate::examination::ExaminerFault;
 use crate::topic::TopicFault;
@@ -25,10 +26,12 @@ pub enum CopyFault<F> {
 }
 
 impl<F: fmt::Display> fmt::Display for CopyFault<F> {
+    ghost output = { copy_fault_text F.output ⟦<AuditFault<ExaminerFault<F>> as fmt::Display>⟧.output };
+
     fn fmt<W: fmt::Write>(&self, f: &mut fmt::Formatter<W>) -> fmt::Result {
         match self {
-            CopyFault::Refused(fault) => write!(f, "{fault}"),
-            CopyFault::Audit(fault) => write!(f, "{fault}"),
+            CopyFault::Refused(fault) => fault.fmt(f),
+            CopyFault::Audit(fault) => fault.fmt(f),
         }
     }
 }
@@ -45,11 +48,13 @@ pub enum TellFault<F> {
 }
 
 impl<F: fmt::Display> fmt::Display for TellFault<F> {
+    ghost output = { tell_text ⟦<CopyFault<F> as fmt::Display>⟧.output ⟦<TopicFault as fmt::Display>⟧.output };
+
     fn fmt<W: fmt::Write>(&self, f: &mut fmt::Formatter<W>) -> fmt::Result {
         match self {
-            TellFault::Copy(fault) => write!(f, "{fault}"),
+            TellFault::Copy(fault) => fault.fmt(f),
             TellFault::Untrue(untrue) => write!(f, "untrue: {untrue} (see --allow-untrue)"),
-            TellFault::Topic(fault) => write!(f, "{fault}"),
+            TellFault::Topic(fault) => fault.fmt(f),
         }
     }
 }

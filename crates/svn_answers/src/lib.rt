@@ -3,32 +3,38 @@
 //! ```
 //! let loaded = Loaded::load(alloc, input, Limits::default(), Texts::Sha1, &mut NoLoadListener)?;
 //! let asked = Asked { alloc, history: loaded.history(Texts::Sha1), copies: &copies };
-//! let mut notices = WrittenNotices { copies: &copies, output: &mut errors };
-//! let verdict = asked.check(&["trunk", "branch"], &mut output, &mut notices)?;
+//! let mut errors = WrittenNotices::new(&copies, error_writer);
+//! let verdict = asked.check_written(&["trunk", "branch"], &mut output, &mut errors)?;
 //! return ExitCode::from(verdict.status());
 //! ```
 //!
 //! prints `trunk: true: 7 nodes, r2 to r3` and `branch: untrue: a: r3 has x at a, which the copy lacks`, and returns the status 1.
 //!
-//! Files: `loaded` loads a dump. `asked` opens and audits copies, and has `check`; `telling` the other questions, whose answers `topics` writes. A program
-//! opens the files: `copies` is what it implements, and `busy` says when a database isn't read. `examination` compares the repository; `checked`, `source`,
-//! `revisions` print lines, `show` trees. `notices` is what hears of what an answer doesn't say; `notice_lines` and `passed_over` print it on standard error.
+//! Files: `loaded` loads a dump. `asked` opens and audits copies, and has `check`; `telling` the other questions, whose answers `topics` writes. A
+//! program opens the files: `copies` is what it implements, and `busy` says when a database isn't read. `examination` compares the repository;
+//! `checked`, `source`, `revisions` print lines, `show` trees, `written` a dump. `notices` is what hears of what an answer doesn't say; `notice_lines`
+//! and `passed_over` print it on standard error, and `both_streams` has the answers with it. `laws` has what the nodes after an update are.
 //!
 //! Promises: [`Loaded::load`] gives the history of the dump's bytes and what its front says (`IsLoaded`), or the first fault of these bytes
-//! (`IsDumpRefusal`). [`Asked::check`] answers each word, in their order (`answers`): what it writes are exactly the lines of the copies that were audited
-//! (`specs/Lines.antt`), each by the verdict of `svn_disk_audit` on the bytes that were opened, and what it returns is the worst of all verdicts. A copy
-//! that is refused has no line, and the others have theirs. A verdict, and a fault of the bytes, is reported only of a copy that stayed as it was while it
-//! was read. [`Asked::answer`] writes exactly the report, the calls, the sorted lines, or the nodes that the calls leave (`specs/Topics.antt`); or nothing,
-//! and reports why (`IsTellFault`). Exactly the notices of these answers are heard, in the order of the words (`specs/Notices.antt`). [`write_shown`] writes
-//! what a revision has at a path, node by node (`specs/Shown.antt`), or refuses it as nothing is there. How notices are printed is only tested.
+//! (`IsDumpRefusal`). [`Asked::check`] answers each word, in their order (`answers`): what it writes are exactly the lines of the copies that were
+//! audited (`specs/Lines.antt`), each by the verdict of `svn_disk_audit` on the bytes that were opened, and what it returns is the worst of all
+//! verdicts. A copy that is refused has no line, and the others have theirs. A verdict, and a fault of the bytes, is reported only of a copy that
+//! stayed as it was while it was read. [`Asked::answer`] writes exactly the report, the calls, the sorted lines, or the nodes that the calls leave,
+//! which of a true copy are those of the target revision (`specs/Topics.antt`); or nothing, and reports why (`IsTellFault`). Exactly the notices of
+//! these answers are heard, in the order of the words (`specs/Notices.antt`). [`write_shown`] writes what a revision has at a path, node by node
+//! (`specs/Shown.antt`), or refuses it as nothing is there. [`Writing`] writes the dump of exactly what lines of a script do (`specs/Written.antt`); a
+//! line that is refused changes nothing. [`Asked::check_written`] and [`Asked::answer_written`] write exactly the lines of these notices
+//! (`specs/NoticeLines.antt`), of faults whose texts are known.
 #![tactic(auto)]
 
 mod asked;
+mod both_streams;
 mod busy;
 mod checked;
 mod copies;
 mod examination;
 mod fault;
+mod laws;
 mod loaded;
 mod notice_lines;
 mod notices;
@@ -40,6 +46,7 @@ mod telling;
 mod topic;
 mod topics;
 mod verdict;
+mod written;
 
 pub use asked::{Asked, History, OnDisk};
 pub use busy::{BusyFault, refuse_journal};
@@ -47,6 +54,7 @@ pub use checked::Checked;
 pub use copies::{Copies, Opened};
 pub use examination::ExaminerFault;
 pub use fault::{AnswerFault, CopyFault, TellFault};
+pub use laws::nodes_are_of_the_target;
 pub use loaded::{DumpRefusal, Loaded};
 pub use notice_lines::WrittenNotices;
 pub use notices::{Notice, Notices};
@@ -56,3 +64,4 @@ pub use telling::Inquiry;
 pub use topic::{Topic, TopicFault};
 pub use topics::write_topic;
 pub use verdict::Verdict;
+pub use written::{WriteFault, Writing};

@@ -1,8 +1,10 @@
 //! What is asked of a working copy that was audited, but for the verdict on it.
 ghost use Rattle.std.specs.Prelude.{◌≡◌};
 ghost use Rattle.svn_answers.specs.declared.topic.TopicFault.TheVariants.{Memory};
+ghost use Rattle.svn_answers.specs.FaultTexts.{topic_text};
 
 use std::alloc::{AllocError, AllocFailed};
+use std::fmt;
 use svn_model::DriveFault;
 use svn_types::Rev;
 use thiserror::Error;
@@ -24,14 +26,23 @@ pub enum Topic {
 #[derive(Clone, Copy, Debug, PartialEq, Eq, Error)]
 pub enum TopicFault {
     /// The update can't be made.
-    #[error("{0}")]
     Drive(DriveFault),
     /// The output couldn't be written. What was written of it is unknown.
-    #[error("write fault")]
     Write,
     /// An allocation failed.
-    #[error("out of memory")]
     Memory,
+}
+
+impl fmt::Display for TopicFault {
+    ghost output = { topic_text ⟦<DriveFault as fmt::Display>⟧.output };
+
+    fn fmt<W: fmt::Write>(&self, f: &mut fmt::Formatter<W>) -> fmt::Result {
+        match self {
+            TopicFault::Drive(fault) => fault.fmt(f),
+            TopicFault::Write => f.write_str("write fault"),
+            TopicFault::Memory => f.write_str("out of memory"),
+        }
+    }
 }
 
 impl From<AllocError> for TopicFault {

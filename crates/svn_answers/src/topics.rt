@@ -11,6 +11,7 @@ ghost use Rattle.svn_audit.specs.Printing.{line_text};
 ghost use Rattle.svn_answers.specs.declared.topic.TopicFault.TheVariants.{Memory, Write as NotWritten};
 ghost use Rattle.svn_answers.specs.Topics.{AreUpdated, IsCallsFault, IsNodesFault, IsTopicFault, IsTopicText, or_latest, calls_to, line, of_drive};
 
+use crate::laws::updates_lead_to_targets;
 use crate::topic::{Topic, TopicFault};
 use std::alloc::Global;
 use std::io::Write;
@@ -149,6 +150,7 @@ fn write_updated<W: Write>(
     ensures fault { IfErr result (λ e. e ≢ NotWritten → IsNodesFault repo.now copy.old rev e) }
     ensures unwritten { IfErr result (λ e. e ≢ NotWritten → Appends (W.contents output.old) (W.contents output.new) []) }
 {
+    updates_lead_to_targets(repo, copy);
     let report = crawled(alloc, copy)?;
     let request = Request::update(or_latest(repo, rev));
     let Ok(mut applier) = Applier::new(alloc, copy) else {

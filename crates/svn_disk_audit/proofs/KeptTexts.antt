@@ -2,8 +2,12 @@
 use Rattle.std.proofs.Common.{◌≡◌, ◌≢◌, ℕ, ◌+◌, ◌<◌, Bool, true, false, cond, List, [], ◌∷◌, ◌++◌, length, take, Option, Some, None, Result, Ok, Err, refl, sym, ap, subst, ◌∙◌, append-nil, length-append, arith}
 use Rattle.std.specs.Prelude.{All, bytes_eq}
 use Rattle.std.specs.List.{AllZip, list_any}
-use Rattle.std.specs.BTreeMap.{is_at}
-use Rattle.std.specs.Ordering.{nat_cmp}
+use Rattle.std.specs.BTreeMap.{is_at, insert_entry}
+use Rattle.std.specs.Map.{lookup}
+use Rattle.std.specs.declared.cmp.Ordering.{Ordering}
+use Rattle.std.specs.declared.cmp.Ordering.TheVariants.{Less, Equal, Greater}
+use Rattle.std.specs.Ordering.{nat_cmp, is_eq, match_ordering}
+use Rattle.std.proofs.lemmas.List.Elements.{All-nil, All-cons, All-head, All-tail}
 use Rattle.std.specs.Cmp.Lexicographic.{slice_cmp, bytes_decides}
 use Rattle.std.specs.Io.KnownBytes.{Consumes, IsAtEnd, ReadConsumes}
 use Rattle.std.proofs.KnownBytes.{Consumes-trans, Consumes-kept}
@@ -46,12 +50,6 @@ read_all old mid new r n front buf taken h is zero room =
     let read = read_of mid new r n buf h is in
     ended old mid new front taken (subst (λ m. Consumes mid new (take m buf)) zero read.0) (read.1 zero room)
 
--- one more piece was kept, if pieces are kept
-pub bytes_more : (keeps : Bool) (front piece old new : List ℕ) → old ≡ cond keeps front [] → new ≡ cond keeps (old ++ piece) old
-    → new ≡ cond keeps (front ++ piece) []
-bytes_more true front piece old new e f = f ∙ ap (λ (l : List ℕ). l ++ piece) e
-bytes_more false front piece old new e f = f ∙ e
-
 -- a text that has a piece with a byte isn't empty
 pub not_empty : (front piece : List ℕ) → length piece ≢ 0 → front ++ piece ≢ []
 not_empty front piece some none =
@@ -68,6 +66,45 @@ found_name items P name keys found all =
     let test : bytes_eq name (items at.1) ≡ true = sym (is_eq-slice_cmp name (items at.1)) ∙ at.4 in
     let same : name ≡ items at.1 = (bytes_decides name (items at.1)).0 test in
     subst P (sym same) (subst (λ k. P (items k)) at.3 (all at.0 at.1 at.2))
+
+-- what holds of all words holds of one that is found
+pub found_word : {K X : Type 0} (items : K → List ℕ) (P : List ℕ → X → Type 0) (name : List ℕ) (word : X) (entries : List (K × X))
+    → lookup (is_at (λ k. slice_cmp nat_cmp name (items k))) entries ≡ Some word → All (λ e. P (items e.0) e.1) entries → P name word
+found_word items P name word [] found all = absurd (cc)
+found_word {K} {X} items P name word (e ∷ es) found all =
+    by (is_at (λ k. slice_cmp nat_cmp name (items k)) e.0) refl found
+    (λ h. found_word items P name word es h (All-tail (λ e. P (items e.0) e.1) e es all))
+  where
+    by : (b : Bool) → is_at (λ k. slice_cmp nat_cmp name (items k)) e.0 ≡ b
+        → cond b (Some e.1) (lookup (is_at (λ k. slice_cmp nat_cmp name (items k))) es) ≡ Some word
+        → (lookup (is_at (λ k. slice_cmp nat_cmp name (items k))) es ≡ Some word → P name word) → P name word
+    by true test h later =
+        let same : name ≡ items e.0 = (bytes_decides name (items e.0)).0 (sym (is_eq-slice_cmp name (items e.0)) ∙ test) in
+        let is : e.1 ≡ word = cc in
+        subst (λ (w : X). P name w) is (subst (λ (n : List ℕ). P n e.1) (sym same) (All-head (λ e. P (items e.0) e.1) e es all))
+    by false test h later = later h
+
+-- one more word is known
+pub words_more : {K X : Type 0} (items : K → List ℕ) (P : List ℕ → X → Type 0) (k : K) (word : X) (entries : List (K × X))
+    → All (λ e. P (items e.0) e.1) entries → P (items k) word
+    → All (λ e. P (items e.0) e.1) (insert_entry (λ x y. slice_cmp nat_cmp (items x) (items y)) entries k word)
+words_more items P k word [] all p = All-cons (λ e. P (items e.0) e.1) (k, word) [] p (All-nil (λ e. P (items e.0) e.1))
+words_more {K} {X} items P k word (e ∷ es) all p =
+    by (slice_cmp nat_cmp (items k) (items e.0)) refl (words_more items P k word es (All-tail (λ e. P (items e.0) e.1) e es all) p)
+  where
+    by : (r : Ordering) → slice_cmp nat_cmp (items k) (items e.0) ≡ r
+        → All (λ e. P (items e.0) e.1) (insert_entry (λ x y. slice_cmp nat_cmp (items x) (items y)) es k word)
+        → All (λ e. P (items e.0) e.1) (match_ordering r ((k, word) ∷ e ∷ es) ((e.0, word) ∷ es)
+        (e ∷ insert_entry (λ x y. slice_cmp nat_cmp (items x) (items y)) es k word))
+    by Less order later = All-cons (λ e. P (items e.0) e.1) (k, word) (e ∷ es) p all
+    by Equal order later =
+        let same : items k ≡ items e.0 =
+        (bytes_decides (items k) (items e.0)).0 (sym (is_eq-slice_cmp (items k) (items e.0)) ∙ ap is_eq order) in
+        All-cons (λ e. P (items e.0) e.1) (e.0, word) es (subst (λ (n : List ℕ). P n word) same p)
+        (All-tail (λ e. P (items e.0) e.1) e es all)
+    by Greater order later =
+        All-cons (λ e. P (items e.0) e.1) e (insert_entry (λ x y. slice_cmp nat_cmp (items x) (items y)) es k word)
+        (All-head (λ e. P (items e.0) e.1) e es all) later
 
 -- ---- nodes
 

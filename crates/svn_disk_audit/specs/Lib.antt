@@ -1,3 +1,4 @@
 pub mod Pristine
+pub mod Keeping
 pub mod Audits
 pub mod Repositories

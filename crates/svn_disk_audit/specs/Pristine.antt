@@ -2,6 +2,8 @@
 -- stand-in, where that is known.
 --     IsPristine known name text      the text is the one that a stand-in names; where a text is known, it is that one
 --     HasText store name      there is such a text
+--     HasKept store texts name word      there is one that is kept as this word
+--     Holds held text      this is held of a text
 --     IsKeptAs texts store node kept_node      a file's text became what its pristine text is kept as; all else of a node is the same
 --     AreKeptAs texts store nodes kept_nodes      so did all nodes of a list, at the same paths
 --     StandInsStay      where texts are kept as stand-ins, the nodes are the same
@@ -9,18 +11,20 @@
 --         exactly where it is said to be empty
 --     IsKeepFault store nodes fault      why the nodes' texts aren't kept: a refusal is of a file of them
 use Rattle.std.specs.Prelude.{◌≡◌, ◌≢◌, ◌⊎◌, ℕ, ◌-◌, ◌≤◌, ◌^◌, true, List, [], Option, IfSome}
+use Rattle.md5.specs.Md5.{Holds as Md5Holds}
 use Rattle.std.specs.List.{AllZip, Contains}
 use Rattle.svn_types.specs.Names.{Path}
 use Rattle.svn_model.specs.declared.base_node.BaseNode.{BaseNode}
 use Rattle.svn_model.specs.declared.base_node.BaseNode.TheVariants.{File as FileNode, Dir as DirNode, NotPresent}
 use Rattle.svn_dump.specs.declared.sections.Texts.{Texts}
-use Rattle.svn_dump.specs.declared.sections.Texts.TheVariants.{Sha1}
+use Rattle.svn_dump.specs.declared.sections.Texts.TheVariants.{Whole, Sha1, Md5}
 use Rattle.svn_dump.specs.Sections.{kept}
 use Rattle.svn_disk_audit.specs.declared.fault.AuditFault.{AuditFault}
 use Rattle.svn_disk_audit.specs.declared.fault.AuditFault.TheVariants.{Database, Examiner, Pristine, Copy, Memory}
 use Rattle.svn_disk_audit.specs.declared.fault.PristineFault.{PristineFault}
 use Rattle.svn_disk_audit.specs.declared.fault.PristineFault.TheVariants.{WrongSha1, Empty, Read}
 use Rattle.svn_disk_audit.specs.declared.fault.PristineRefusal.{PristineRefusal}
+use Rattle.svn_disk_audit.specs.declared.pristine.Held.{Held}
 use Rattle.svn_disk_audit.specs.declared.pristine.TextFault.{TextFault}
 use Rattle.svn_disk_audit.specs.declared.pristine.Tries.{Tries}
 use Rattle.svn_disk_audit.specs.declared.pristine.TextFault.TheVariants as texts
@@ -37,6 +41,18 @@ pub record IsPristine (known : Option (List ℕ)) (name text : List ℕ) : Type 
 
 abbrev pub HasText : Store → List ℕ → Type 0
 HasText store name = (text : List ℕ) × IsPristine (store name) name text
+
+abbrev pub HasKept : Store → Texts → List ℕ → List ℕ → Type 0
+HasKept store texts name word = (text : List ℕ) × IsPristine (store name) name text × (word ≡ kept texts text)
+
+-- its bytes, or its running checksum, as texts are kept
+abbrev pub HoldsSo : Texts → Held → List ℕ → Type 0
+HoldsSo Whole held text = held.bytes.items ≡ text
+HoldsSo Sha1 held text = Unit {0}
+HoldsSo Md5 held text = Md5Holds held.md5 text
+
+abbrev pub Holds : Held → List ℕ → Type 0
+Holds held text = HoldsSo held.texts held text
 
 abbrev pub IsKeptAs : Texts → Store → BaseNode → BaseNode → Type 0
 IsKeptAs texts store (FileNode r q name props) kept_node =

@@ -37,8 +37,8 @@ pub struct Audited {
 }
 
 /// The working copy that the bytes of a database stand for, or what of it is at a path and below, as a copy of its own: nothing else of it counts, and
-/// paths are from there. The pristine text of each of its files is read: with [`Texts::Sha1`] each different one once, in pieces of 64 KiB, and with
-/// [`Texts::Whole`] each file's, which is kept. Refused as [`read_base_tree_at`] refuses the database, then as the examiner refuses what it has, then at
+/// paths are from there. The pristine text of each of its files is read: with [`Texts::Sha1`] and [`Texts::Md5`] each different one once, in pieces of
+/// 64 KiB, and with [`Texts::Whole`] each file's, which is kept. Refused as [`read_base_tree_at`] refuses the database, then as the examiner refuses what it has, then at
 /// the first file, in the order of the rows, whose pristine text isn't the one that its stand-in names, then as [`WorkingCopy::from_nodes`] refuses the
 /// nodes: BadRoot where the copy has no directory at the path. Memory where an allocation failed.
 pub fn read_copy<E: Examiner>(

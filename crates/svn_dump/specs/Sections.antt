@@ -1,18 +1,18 @@
 -- The two sections after a record's headers. What is read comes with the bytes after it.
 --     kept texts text      a text, or its stand-in
 --     prop_section_at, text_section_at      the sections, where a record has them
-use Rattle.std.specs.Prelude.{ℕ, Bool, true, false, ◌&&◌, not, List, [], nat_lt, bytes_eq, Option, Some, None, unwrap_or, Result, Ok, Err, if◌then◌else◌}
+use Rattle.std.specs.Prelude.{ℕ, Bool, true, false, ◌&&◌, not, List, [], nat_lt, bytes_eq, Option, Some, None, unwrap_or, option_map, Result, Ok, Err, if◌then◌else◌}
 use Rattle.md5.specs.Md5.{md5, Holds as Md5Holds}
 use Rattle.sha1.specs.Sha1.{sha1, Holds as Sha1Holds}
-use Rattle.svn_digits.specs.StandIns.{stand_in, stand_in_of}
+use Rattle.svn_digits.specs.StandIns.{stand_in, stand_in_of, md5_stand_in, stand_in_of_md5}
 use Rattle.svn_dump.specs.declared.fault.Reason.{Reason}
-use Rattle.svn_dump.specs.declared.fault.Reason.TheVariants.{PropsTooLong, TextTooLong, WrongMd5, WrongSha1, NoSha1}
+use Rattle.svn_dump.specs.declared.fault.Reason.TheVariants.{PropsTooLong, TextTooLong, WrongMd5, WrongSha1, NoSha1, NoMd5}
 use Rattle.svn_dump.specs.declared.record.PropSection.{PropSection}
 use Rattle.svn_dump.specs.declared.record.PropSection.TheVariants as props
 use Rattle.svn_dump.specs.declared.record.TextSection.{TextSection}
 use Rattle.svn_dump.specs.declared.record.TextSection.TheVariants as text
 use Rattle.svn_dump.specs.declared.sections.Texts.{Texts}
-use Rattle.svn_dump.specs.declared.sections.Texts.TheVariants.{Whole, Sha1}
+use Rattle.svn_dump.specs.declared.sections.Texts.TheVariants.{Whole, Sha1, Md5}
 use Rattle.svn_dump.specs.declared.shape.GivenSums.{GivenSums}
 use Rattle.svn_dump.specs.declared.sums.Running.{Running}
 use Rattle.svn_dump.specs.declared.shape.Lengths.{Lengths}
@@ -70,6 +70,7 @@ prop_section_at shape limit bytes = if_given shape.lengths.props (sized_props_at
 abbrev pub kept : Texts → List ℕ → List ℕ
 kept Whole bytes = bytes
 kept Sha1 bytes = stand_in bytes
+kept Md5 bytes = md5_stand_in bytes
 
 abbrev pub is_given_as : Option (List ℕ) → List ℕ → Bool
 is_given_as None sum = true
@@ -89,14 +90,14 @@ whole_text_at texts given len bytes = do
   Ok (kept texts whole, read.1)
 
 -- a delta of its format alone leads to no bytes; svnadmin gives no checksum of them
-abbrev pub empty_delta_at : ℕ → List ℕ → Read TextSection
-empty_delta_at len bytes =
-    if nat_lt 4 len then Err NoSha1 else bytes_at len bytes >>= λ read. Ok (text.Whole (kept Sha1 []), read.1)
+abbrev pub empty_delta_at : Texts → Reason → ℕ → List ℕ → Read TextSection
+empty_delta_at texts missing len bytes =
+    if nat_lt 4 len then Err missing else bytes_at len bytes >>= λ read. Ok (text.Whole (kept texts []), read.1)
 
--- of a delta that isn't kept the checksum that is given stands for the text
-abbrev pub stand_in_at : Option (List ℕ) → ℕ → List ℕ → Read TextSection
-stand_in_at None len bytes = empty_delta_at len bytes
-stand_in_at (Some sum) len bytes = bytes_at len bytes >>= λ read. Ok (text.Whole (stand_in_of sum), read.1)
+-- of a delta that isn't kept the stand-in by the checksum that is given is in place of the text
+abbrev pub stand_in_at : Texts → Reason → Option (List ℕ) → ℕ → List ℕ → Read TextSection
+stand_in_at texts missing None len bytes = empty_delta_at texts missing len bytes
+stand_in_at texts missing (Some word) len bytes = bytes_at len bytes >>= λ read. Ok (text.Whole word, read.1)
 
 -- a delta with all checksums that are given
 abbrev pub delta_with : Shape → List ℕ → TextSection
@@ -110,11 +111,13 @@ delta_with shape delta = text.Delta (record {
 
 abbrev pub text_delta_at : Shape → Texts → ℕ → List ℕ → Read TextSection
 text_delta_at shape Whole len bytes = bytes_at len bytes >>= λ read. Ok (delta_with shape read.0, read.1)
-text_delta_at shape Sha1 len bytes = stand_in_at shape.sums.sha1 len bytes
+text_delta_at shape Sha1 len bytes = stand_in_at Sha1 NoSha1 (option_map stand_in_of shape.sums.sha1) len bytes
+text_delta_at shape Md5 len bytes = stand_in_at Md5 NoMd5 (option_map stand_in_of_md5 shape.sums.md5) len bytes
 
 abbrev pub keeps : Texts → Bool
 keeps Whole = true
 keeps Sha1 = false
+keeps Md5 = false
 
 abbrev pub text_at : Shape → Texts → ℕ → List ℕ → Read TextSection
 text_at shape texts len bytes =

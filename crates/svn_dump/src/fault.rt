@@ -69,6 +69,9 @@ pub enum Reason {
     /// A text delta without the SHA-1 checksum that replaces its text.
     #[error("a text delta without the SHA-1 checksum of its text")]
     NoSha1,
+    /// A text delta without the MD5 checksum that replaces its text.
+    #[error("a text delta without the MD5 checksum of its text")]
+    NoMd5,
     /// The MD5 checksum of the text that a text delta is applied to isn't the one that is given for it.
     #[error("the text before isn't of the MD5 checksum that its delta gives")]
     WrongBaseMd5,

@@ -1,5 +1,5 @@
 //! Bytes off a reader: one, a record's headers, or so many.
-ghost use Rattle.std.specs.Prelude.{ℕ, nat_eq, List, Option, Bool, true, false, ◌&&◌, ◌≡◌, ◌≢◌, ◌∷◌, ◌++◌, [], ◌<◌, ◌≤◌, ◌+◌, length, take, vec_len, IsSome, IfOk, IfErr, MatchOption, MatchResult};
+ghost use Rattle.std.specs.Prelude.{ℕ, nat_eq, List, Option, Bool, true, false, ◌&&◌, ◌≡◌, ◌≢◌, ◌↔◌, ◌∷◌, ◌++◌, [], ◌<◌, ◌≤◌, ◌+◌, length, take, vec_len, IsSome, IsTrue, IfOk, IfErr, MatchOption, MatchResult};
 ghost use Rattle.std.specs.Io.{ReadsAtMost};
 ghost use Rattle.std.specs.Io.Buffered.{reader_remaining, reader_buffer};
 ghost use Rattle.std.specs.List.{position_or_len};
@@ -301,12 +301,35 @@ pub(crate) fn read_piece<S: Input>(
     }
 }
 
+/// Whether so many bytes were read ahead.
+pub(crate) fn has_ahead<S: Input>(source: &S, count: u64) -> bool
+    ensures { IsTrue result ↔ (count ≤ length (S.ahead source.now)) }
+{
+    count <= source.buffer().len() as u64
+}
+
 /// Reads so many bytes.
 pub(crate) fn read_bytes<S: Input>(
     alloc: Global,
     source: &mut S,
     count: usize,
 ) -> Result<Vec<u8>, DumpFault>
+    ensures bytes { Reads (λ v. v.items) (S.remaining source.old) (S.remaining source.new) result (bytes_at count) }
+    ensures counted { Counts (S.taken source.old) (S.remaining source.old) (S.taken source.new) (S.remaining source.new) }
+    ensures grows { S.taken source.old ≤ S.taken source.new }
+    ensures failed { FailsWith (S.failed source.old) (S.failed source.new) result }
+{
+    // (what was read ahead needs no piece, whose zeros would cost more than a short section)
+    if has_ahead(source, count as u64) {
+        let bytes = Vec::from_slice(alloc, &source.buffer()[..count])?;
+        source.consume(count);
+        return Ok(bytes);
+    }
+    read_pieces(alloc, source, count)
+}
+
+// Reads so many bytes, piece by piece.
+fn read_pieces<S: Input>(alloc: Global, source: &mut S, count: usize) -> Result<Vec<u8>, DumpFault>
     ensures bytes { Reads (λ v. v.items) (S.remaining source.old) (S.remaining source.new) result (bytes_at count) }
     ensures counted { Counts (S.taken source.old) (S.remaining source.old) (S.taken source.new) (S.remaining source.new) }
     ensures grows { S.taken source.old ≤ S.taken source.new }

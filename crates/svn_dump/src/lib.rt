@@ -42,6 +42,6 @@ pub use record::{
     Action, CopySource, NodeRecord, PropChanges, PropSection, Record, TextDelta, TextSection,
 };
 pub use sections::{Limits, Texts, kept_text};
-pub use sums::{keep, stand_in};
+pub use sums::{keep, md5_stand_in, stand_in};
 pub use svn_types::Sha1Sum;
 pub use writer::{push_format, push_node, push_revision};

@@ -5,13 +5,13 @@ ghost use Rattle.svn_dump.specs.Reading.{Gives, Reads, FailsWith};
 ghost use Rattle.svn_dump.specs.Sections.{after_sections, empty_delta_at, keeps, kept, prop_section_of, sized_props_at, prop_section_at, whole_text_at, delta_with, text_delta_at, text_at, text_section_at, skipped};
 
 use crate::fault::{DumpFault, Reason};
-use crate::input::{Input, PIECE, read_bytes, read_piece};
+use crate::input::{Input, PIECE, has_ahead, read_bytes, read_piece};
 use crate::properties::{read_changes, read_props};
 use crate::record::{PropChanges, PropSection, TextDelta, TextSection};
 use crate::shape::{GivenSums, Lengths, Shape};
-use crate::sums::{check_sums, read_text, stand_in};
+use crate::sums::{check_sums, md5_stand_in, read_text, stand_in};
 use std::alloc::{AllocError, Global};
-use svn_types::{MAX_SIZE, Sha1Sum, Text};
+use svn_types::{Digest, MAX_SIZE, Sha1Sum, Text};
 
 /// How texts are kept.
 #[derive(Clone, Copy, Debug, PartialEq, Eq)]
@@ -20,6 +20,8 @@ pub enum Texts {
     Whole,
     /// Each replaced by `$sha1$` and its SHA-1 checksum in hexadecimal digits: texts that differ have stand-ins that differ, as far as SHA-1 goes.
     Sha1,
+    /// Each replaced by `$md5$` and its MD5 checksum, where only that is given.
+    Md5,
 }
 
 /// The most bytes of what is held at a time.
@@ -48,6 +50,20 @@ impl Default for Limits {
 
 // Passes over so many bytes.
 fn skip_bytes<S: Input>(source: &mut S, len: u64) -> Result<(), DumpFault>
+    ensures bytes { Reads (λ u. u) (S.remaining source.old) (S.remaining source.new) result (skipped len) }
+    ensures counted { Counts (S.taken source.old) (S.remaining source.old) (S.taken source.new) (S.remaining source.new) }
+    ensures grows { S.taken source.old ≤ S.taken source.new }
+    ensures failed { FailsWith (S.failed source.old) (S.failed source.new) result }
+{
+    if has_ahead(source, len) {
+        source.consume(len as usize);
+        return Ok(());
+    }
+    skip_pieces(source, len)
+}
+
+// Passes over so many bytes, piece by piece.
+fn skip_pieces<S: Input>(source: &mut S, len: u64) -> Result<(), DumpFault>
     ensures bytes { Reads (λ u. u) (S.remaining source.old) (S.remaining source.new) result (skipped len) }
     ensures counted { Counts (S.taken source.old) (S.remaining source.old) (S.taken source.new) (S.remaining source.new) }
     ensures grows { S.taken source.old ≤ S.taken source.new }
@@ -141,6 +157,7 @@ fn read_whole_text<S: Input>(
     match texts {
         Texts::Whole => Ok(Text::summed(text.bytes, text.md5)?),
         Texts::Sha1 => Ok(stand_in(alloc, &text.sha1)?),
+        Texts::Md5 => Ok(md5_stand_in(alloc, &text.md5)?),
     }
 }
 
@@ -152,17 +169,19 @@ fn read_empty_delta<S: Input>(
     alloc: Global,
     source: &mut S,
     len: u64,
+    texts: Texts,
+    missing: Reason,
 ) -> Result<TextSection, DumpFault>
-    ensures bytes { Reads (λ section. section) (S.remaining source.old) (S.remaining source.new) result (empty_delta_at len) }
+    ensures bytes { Reads (λ section. section) (S.remaining source.old) (S.remaining source.new) result (empty_delta_at texts missing len) }
     ensures counted { Counts (S.taken source.old) (S.remaining source.old) (S.taken source.new) (S.remaining source.new) }
     ensures grows { S.taken source.old ≤ S.taken source.new }
     ensures failed { FailsWith (S.failed source.old) (S.failed source.new) result }
 {
     if len > EMPTY_DELTA {
-        return Err(DumpFault::Refused(Reason::NoSha1));
+        return Err(DumpFault::Refused(missing));
     }
     skip_bytes(source, len)?;
-    let text = kept_text(alloc, Texts::Sha1, b"")?;
+    let text = kept_text(alloc, texts, b"")?;
     Ok(TextSection::Whole(text))
 }
 
@@ -173,6 +192,7 @@ pub fn kept_text(alloc: Global, texts: Texts, bytes: &[u8]) -> Result<Text, Allo
     match texts {
         Texts::Whole => Text::from_slice(alloc, bytes),
         Texts::Sha1 => stand_in(alloc, &Sha1Sum::of(bytes)),
+        Texts::Md5 => md5_stand_in(alloc, &Digest::of(bytes)),
     }
 }
 
@@ -202,16 +222,21 @@ fn read_text_delta<S: Input>(
     ensures grows { S.taken source.old ≤ S.taken source.new }
     ensures failed { FailsWith (S.failed source.old) (S.failed source.new) result }
 {
-    match (texts, shape.sums.sha1) {
-        (Texts::Whole, _) => {
+    match (texts, shape.sums.sha1, shape.sums.md5) {
+        (Texts::Whole, _, _) => {
             let delta = Text::new(read_bytes(alloc, source, len as usize)?);
             Ok(TextSection::Delta(with_sums(delta, shape)))
         }
-        (Texts::Sha1, Some(sha1)) => {
+        (Texts::Sha1, Some(sha1), _) => {
             skip_bytes(source, len)?;
             Ok(TextSection::Whole(stand_in(alloc, &sha1)?))
         }
-        (Texts::Sha1, None) => read_empty_delta(alloc, source, len),
+        (Texts::Md5, _, Some(md5)) => {
+            skip_bytes(source, len)?;
+            Ok(TextSection::Whole(md5_stand_in(alloc, &md5)?))
+        }
+        (Texts::Sha1, None, _) => read_empty_delta(alloc, source, len, texts, Reason::NoSha1),
+        (Texts::Md5, _, None) => read_empty_delta(alloc, source, len, texts, Reason::NoMd5),
     }
 }
 
@@ -241,7 +266,7 @@ fn is_too_long(len: u64, texts: Texts, limit: usize) -> bool
 {
     match texts {
         Texts::Whole => len > limit as u64,
-        Texts::Sha1 => false,
+        Texts::Sha1 | Texts::Md5 => false,
     }
 }
 

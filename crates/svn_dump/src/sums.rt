@@ -4,16 +4,16 @@ ghost use Rattle.md5.specs.Md5.{md5};
 ghost use Rattle.sha1.specs.Sha1.{sha1};
 ghost use Rattle.svn_dump.specs.Counts.{Counts};
 ghost use Rattle.svn_dump.specs.Reading.{Gives, Reads, FailsWith};
-ghost use Rattle.svn_digits.specs.StandIns.{stand_in_of};
-ghost use Rattle.svn_dump.specs.Sections.{checked, summed_at, Sums};
+ghost use Rattle.svn_digits.specs.StandIns.{stand_in_of, stand_in_of_md5};
+ghost use Rattle.svn_dump.specs.Sections.{checked, summed, summed_at, Sums};
 
 use crate::fault::{DumpFault, Reason};
-use crate::input::{Input, PIECE, read_piece};
+use crate::input::{Input, PIECE, has_ahead, read_piece};
 use crate::shape::GivenSums;
 use md5::{Digest as Hasher, Md5};
 use sha1::Sha1;
 use std::alloc::{AllocError, Global};
-use svn_digits::stand_in_of;
+use svn_digits::{stand_in_of, stand_in_of_md5};
 use svn_types::{Digest, Sha1Sum, Text};
 
 // The checksums of what was read so far.
@@ -79,8 +79,43 @@ pub fn keep(bytes: &mut Vec<u8>, piece: &[u8], keeps: bool) -> Result<(), AllocE
     Ok(())
 }
 
+// A text with its checksums, its bytes if they are to be kept.
+fn sum_text(alloc: Global, text: &[u8], keeps: bool) -> Result<SummedText, DumpFault>
+    ensures text { IfOk result (λ t. (t.bytes.items, t.md5, t.sha1) ≡ summed keeps text.now) }
+    ensures fault { IfErr result (λ e. e ≡ DumpFault.Memory) }
+{
+    let mut bytes = room_for(alloc, text.len() as u64, keeps)?;
+    keep(&mut bytes, text, keeps)?;
+    Ok(SummedText {
+        bytes,
+        md5: Digest::of(text),
+        sha1: Sha1Sum::of(text),
+    })
+}
+
 /// Reads a text of so many bytes, and keeps them if asked.
 pub(crate) fn read_text<S: Input>(
+    alloc: Global,
+    source: &mut S,
+    len: u64,
+    keeps: bool,
+) -> Result<SummedText, DumpFault>
+    ensures bytes { Reads (λ t. (t.bytes.items, t.md5, t.sha1)) (S.remaining source.old) (S.remaining source.new) result (summed_at keeps len) }
+    ensures summed { keeps ≡ true → IfOk result (λ t. t.md5 ≡ md5 t.bytes.items) }
+    ensures counted { Counts (S.taken source.old) (S.remaining source.old) (S.taken source.new) (S.remaining source.new) }
+    ensures grows { S.taken source.old ≤ S.taken source.new }
+    ensures failed { FailsWith (S.failed source.old) (S.failed source.new) result }
+{
+    if has_ahead(source, len) {
+        let text = sum_text(alloc, &source.buffer()[..len as usize], keeps)?;
+        source.consume(len as usize);
+        return Ok(text);
+    }
+    read_text_pieces(alloc, source, len, keeps)
+}
+
+// The same piece by piece.
+fn read_text_pieces<S: Input>(
     alloc: Global,
     source: &mut S,
     len: u64,
@@ -126,4 +161,11 @@ pub fn stand_in(alloc: Global, sha1: &Sha1Sum) -> Result<Text, AllocError>
     ensures { IfOk result (λ text. text ≡ stand_in_of sha1.now) }
 {
     stand_in_of(alloc, &sha1.0)
+}
+
+/// The stand-in for the text with this MD5 checksum: `$md5$` and the checksum in lower-case hexadecimal digits.
+pub fn md5_stand_in(alloc: Global, md5: &Digest) -> Result<Text, AllocError>
+    ensures { IfOk result (λ text. text ≡ stand_in_of_md5 md5.now) }
+{
+    stand_in_of_md5(alloc, &md5.0)
 }

@@ -68,14 +68,21 @@ begins_number rev h h' (suc n) e commits size first = begins_later rev h h' (suc
 
 -- ---- a part
 
-pub part_by : (limits : Limits) (texts : Texts) (old mid new : Loading) (rev next : Option ℕ) (ended filled : History)
-    → LoadsNodes limits texts old next mid → mid.rev ≡ old.rev → rev ≡ old.rev → Ends mid.rev mid.draft ended → Begins rev next ended filled
+known_map : (left left' : Option (List ℕ)) (P Q : List ℕ → List ℕ → Type 0) → ((bytes rest : List ℕ) → P bytes rest → Q bytes rest)
+    → IfKnown left left' P → IfKnown left left' Q
+known_map None left' P Q f h = tt
+known_map (Some bytes) None P Q f h = absurd h
+known_map (Some bytes) (Some rest) P Q f h = f bytes rest h
+
+pub part_by : (limits : Limits) (texts : Texts) (at : Option ℕ → List ℕ → Type 0) (old mid new : Loading) (rev next : Option ℕ)
+    (ended filled : History) → LoadsNodes limits texts at old next mid → mid.rev ≡ old.rev → rev ≡ old.rev → Ends mid.rev mid.draft ended → Begins rev next ended filled
     → new.draft ≡ begun filled → new.rev ≡ next → new.left ≡ mid.left → LoadsPart limits texts old new
-part_by limits texts old mid new rev next ended filled nodes same same' ends begins start next_is left = record {
+part_by limits texts at old mid new rev next ended filled nodes same same' ends begins start next_is left = record {
   nodes = nodes.nodes;
   bytes = subst (λ (l : Option (List ℕ)). IfKnown old.left l (λ bytes rest. NodesAt limits texts bytes nodes.nodes new.rev rest)) (sym left)
       (subst (λ (n : Option ℕ). IfKnown old.left mid.left (λ bytes rest. NodesAt limits texts bytes nodes.nodes n rest)) (sym next_is)
-      nodes.bytes);
+      (known_map old.left mid.left (λ bytes rest. (read : NodesAt limits texts bytes nodes.nodes next rest) × at old.rev read.mid)
+      (λ bytes rest. NodesAt limits texts bytes nodes.nodes next rest) (λ bytes rest known. known.0) nodes.bytes));
   read = mid.draft;
   made = nodes.made;
   ended = ended;
@@ -88,21 +95,21 @@ part_by limits texts old mid new rev next ended filled nodes same same' ends beg
 
 -- ---- what is refused
 
-pub nodes_refused : (limits : Limits) (texts : Texts) (old : Loading) (e : LoadFault) (h : History) → RefusesNodes limits texts old e
-    → h ≡ old.draft.history → RefusesPart limits texts old e h
-nodes_refused limits texts old e h why same = bad_nodes why same
+pub nodes_refused : (limits : Limits) (texts : Texts) (at : Option ℕ → List ℕ → Type 0) (old : Loading) (e : LoadFault) (h : History)
+    → RefusesNodes limits texts at old e → h ≡ old.draft.history → RefusesPart limits texts at old e h
+nodes_refused limits texts at old e h why same = bad_nodes why same
 
-pub end_refused : (limits : Limits) (texts : Texts) (old : Loading) (e : LoadFault) (h : History) → e ≡ faults.Memory
-    → h ≡ old.draft.history → RefusesPart limits texts old e h
-end_refused limits texts old e h is same = bad_nodes (by old.left) same
+pub end_refused : (limits : Limits) (texts : Texts) (at : Option ℕ → List ℕ → Type 0) (old : Loading) (e : LoadFault) (h : History)
+    → e ≡ faults.Memory → h ≡ old.draft.history → RefusesPart limits texts at old e h
+end_refused limits texts at old e h is same = bad_nodes (by old.left) same
   where
-    by : (l : Option (List ℕ)) → MatchOption l (Unit {0}) (λ bytes. NodesFault limits texts old.rev old.draft bytes e)
+    by : (l : Option (List ℕ)) → MatchOption l (Unit {0}) (λ bytes. NodesFault limits texts at old.rev old.draft bytes e)
     by None = tt
     by (Some bytes) = outside (out_of_memory is)
 
-ends_part : (limits : Limits) (texts : Texts) (old mid : Loading) (next : Option ℕ) (ended : History) → LoadsNodes limits texts old next mid
-    → Ends old.rev mid.draft ended → EndsPart limits texts old next ended
-ends_part limits texts old mid next ended nodes ends = record {
+ends_part : (limits : Limits) (texts : Texts) (at : Option ℕ → List ℕ → Type 0) (old mid : Loading) (next : Option ℕ) (ended : History)
+    → LoadsNodes limits texts at old next mid → Ends old.rev mid.draft ended → EndsPart limits texts at old next ended
+ends_part limits texts at old mid next ended nodes ends = record {
   nodes = nodes.nodes;
   bytes = by old.left mid.left nodes.bytes;
   read = mid.draft;
@@ -110,18 +117,20 @@ ends_part limits texts old mid next ended nodes ends = record {
   ended_is = ends;
 }
   where
-    by : (left left' : Option (List ℕ)) → IfKnown left left' (λ bytes rest. NodesAt limits texts bytes nodes.nodes next rest)
-        → MatchOption left (Unit {0}) (λ bytes. (rest : List ℕ) × NodesAt limits texts bytes nodes.nodes next rest)
+    by : (left left' : Option (List ℕ))
+        → IfKnown left left' (λ bytes rest. (read : NodesAt limits texts bytes nodes.nodes next rest) × at old.rev read.mid)
+        → MatchOption left (Unit {0})
+        (λ bytes. (rest : List ℕ) × (read : NodesAt limits texts bytes nodes.nodes next rest) × at old.rev read.mid)
     by None left' known = tt
     by (Some bytes) None known = absurd known
-    by (Some bytes) (Some rest) known = (rest, known)
+    by (Some bytes) (Some rest) known = (rest, known.0, known.1)
 
-pub next_refused : (limits : Limits) (texts : Texts) (old mid : Loading) (rev next : Option ℕ) (ended h : History) (e : LoadFault)
-    → LoadsNodes limits texts old next mid → mid.rev ≡ old.rev → rev ≡ old.rev → Ends mid.rev mid.draft ended
-    → RefusesNext rev next ended e h → RefusesPart limits texts old e h
-next_refused limits texts old mid rev next ended h e nodes same same' ends why =
+pub next_refused : (limits : Limits) (texts : Texts) (at : Option ℕ → List ℕ → Type 0) (old mid : Loading) (rev next : Option ℕ)
+    (ended h : History) (e : LoadFault) → LoadsNodes limits texts at old next mid → mid.rev ≡ old.rev → rev ≡ old.rev
+    → Ends mid.rev mid.draft ended → RefusesNext rev next ended e h → RefusesPart limits texts at old e h
+next_refused limits texts at old mid rev next ended h e nodes same same' ends why =
     bad_next next ended
-    (ends_part limits texts old mid next ended nodes (subst (λ (r : Option ℕ). Ends r mid.draft ended) same ends))
+    (ends_part limits texts at old mid next ended nodes (subst (λ (r : Option ℕ). Ends r mid.draft ended) same ends))
     (subst (λ (r : Option ℕ). RefusesNext r next ended e h) same' why)
 
 -- ---- the same limits, and texts kept the same
@@ -131,7 +140,7 @@ pub part_as : (limits limits' : Limits) (texts texts' : Texts) (old new : Loadin
 part_as limits limits' texts texts' old new same same' h =
     subst (λ (t : Texts). LoadsPart limits t old new) same' (subst (λ (l : Limits). LoadsPart l texts' old new) same h)
 
-pub refuses_as : (limits limits' : Limits) (texts texts' : Texts) (old : Loading) (e : LoadFault) (h : History) → limits' ≡ limits
-    → texts' ≡ texts → RefusesPart limits' texts' old e h → RefusesPart limits texts old e h
-refuses_as limits limits' texts texts' old e h same same' why =
-    subst (λ (t : Texts). RefusesPart limits t old e h) same' (subst (λ (l : Limits). RefusesPart l texts' old e h) same why)
+pub refuses_as : (limits limits' : Limits) (texts texts' : Texts) (at : Option ℕ → List ℕ → Type 0) (old : Loading) (e : LoadFault) (h : History)
+    → limits' ≡ limits → texts' ≡ texts → RefusesPart limits' texts' at old e h → RefusesPart limits texts at old e h
+refuses_as limits limits' texts texts' at old e h same same' why =
+    subst (λ (t : Texts). RefusesPart limits t at old e h) same' (subst (λ (l : Limits). RefusesPart l texts' at old e h) same why)

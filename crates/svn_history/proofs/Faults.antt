@@ -31,6 +31,11 @@ fails_through (faults.Delta fault) made other f h = f h
 pub fails_memory : {A : Type 0} (e : LoadFault) (made : Result A LoadFault) → e ≡ faults.Memory → Fails e made
 fails_memory {A} e made is = subst (λ (x : LoadFault). Fails {Y = A} x made) (sym is) tt
 
+pub IfErr_both : {T E : Type 0} {P R : E → Type 0} (Q : E → Type 0) (r : Result T E) → IfErr r P → IfErr r R
+    → ((e : E) → P e → R e → Q e) → IfErr r Q
+IfErr_both Q (Ok v) h k f = tt
+IfErr_both Q (Err e) h k f = f e h k
+
 pub IfErr_then : {T E : Type 0} {P : E → Type 0} (Q : E → Type 0) (r : Result T E) → IfErr r P → ((e : E) → P e → Q e) → IfErr r Q
 IfErr_then Q (Ok v) h f = tt
 IfErr_then Q (Err e) h f = f e h

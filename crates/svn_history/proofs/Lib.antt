@@ -5,6 +5,8 @@ pub mod Stepping
 pub mod Altering
 -- The nodes up to the next revision, one after another.
 pub mod Parts
+-- Where a dump is refused.
+pub mod Places
 -- The front of a dump, read record by record.
 pub mod Fronts
 -- What is made of a record is never refused as a read fault.

@@ -255,6 +255,19 @@ pub rest_at_first : (limits : Limits) (texts : Texts) (front_one new : Loading) 
 rest_at_first limits texts front_one new none h =
     subst (λ (r : Option ℕ). MatchOption r (LoadsAll limits texts front_one new) (λ rev. LoadsOn limits texts front_one new)) none h
 
+-- one revision after another was loaded, and the next one has begun
+pub data Loaded (limits : Limits) (texts : Texts) (first_one : Loading) : Loading → Type 0 where
+  none_loaded : Loaded limits texts first_one first_one
+  one_revision_more : {new : Loading} (now : Loading) (done : Option ℕ) → Loaded limits texts first_one now → LoadsOne limits texts now new done
+      → IsSome new.rev → Loaded limits texts first_one new
+
+-- what is refused then is refused of them all
+pub refused_after : (limits : Limits) (texts : Texts) (at : Option ℕ → List ℕ → Type 0) (first_one now : Loading) (e : LoadFault) (h : History)
+    → Loaded limits texts first_one now → RefusesAll limits texts at now e h → RefusesAll limits texts at first_one e h
+refused_after limits texts at first_one now e h none_loaded why = why
+refused_after limits texts at first_one now e h (one_revision_more mid done so_far one some) why =
+    refused_after limits texts at first_one mid e h so_far (after_one now done one some why)
+
 module _ (limits limits' : Limits) (texts texts' : Texts) (first_one now new : Loading) (done : Option ℕ) (same : limits' ≡ limits)
     (same' : texts' ≡ texts) (one : LoadsOne limits' texts' now new done) where
   one_here : LoadsOne limits texts now new done
@@ -280,22 +293,22 @@ module _ (limits limits' : Limits) (texts texts' : Texts) (first_one now new : L
         by (begins one_more_ none p was is q) = rest_from_none limits texts now new none (some_parts one_more_ p was (last_part q none'))
         by (ends none p ended is) = rest_from_none limits texts now new none (no_part p ended)
 
-  pub refused_more : ((e : LoadFault) (h : History) → RefusesAll limits texts now e h → RefusesAll limits texts first_one e h)
-      → IsSome new.rev → (e : LoadFault) (h : History) → RefusesAll limits texts new e h → RefusesAll limits texts first_one e h
-  refused_more so_far some e h why = so_far e h (after_one new done one_here some why)
+  pub loaded_more : Loaded limits texts first_one now → IsSome new.rev → Loaded limits texts first_one new
+  loaded_more so_far some = one_revision_more now done so_far one_here some
 
 -- ---- what is refused
 
-pub refuses_one_as : (limits limits' : Limits) (texts texts' : Texts) (old : Loading) (e : LoadFault) (h : History) → limits' ≡ limits
-    → texts' ≡ texts → RefusesOne limits' texts' old e h → RefusesOne limits texts old e h
-refuses_one_as limits limits' texts texts' old e h same same' why =
-    subst (λ (t : Texts). RefusesOne limits t old e h) same' (subst (λ (l : Limits). RefusesOne l texts' old e h) same why)
+pub refuses_one_as : (limits limits' : Limits) (texts texts' : Texts) (at : Option ℕ → List ℕ → Type 0) (old : Loading) (e : LoadFault)
+    (h : History) → limits' ≡ limits → texts' ≡ texts → RefusesOne limits' texts' at old e h → RefusesOne limits texts at old e h
+refuses_one_as limits limits' texts texts' at old e h same same' why =
+    subst (λ (t : Texts). RefusesOne limits t at old e h) same' (subst (λ (l : Limits). RefusesOne l texts' at old e h) same why)
 
 -- a reader may fail anywhere
-pub read_refused : (limits : Limits) (texts : Texts) (old : Loading) → RefusesOne limits texts old (faults.Dump dump.Read) old.draft.history
-read_refused limits texts old = at_once (bad_nodes (by old.left) refl)
+pub read_refused : (limits : Limits) (texts : Texts) (at : Option ℕ → List ℕ → Type 0) (old : Loading)
+    → RefusesOne limits texts at old (faults.Dump dump.Read) old.draft.history
+read_refused limits texts at old = at_once (bad_nodes (by old.left) refl)
   where
     by : (l : Option (List ℕ))
-        → MatchOption l (Unit {0}) (λ bytes. NodesFault limits texts old.rev old.draft bytes (faults.Dump dump.Read))
+        → MatchOption l (Unit {0}) (λ bytes. NodesFault limits texts at old.rev old.draft bytes (faults.Dump dump.Read))
     by None = tt
     by (Some bytes) = outside (read_fault refl)

@@ -5,6 +5,7 @@ use Rattle.std.specs.Prelude.{◌≡◌, ℕ, ◌+◌, length, Option, Result, O
 use Rattle.svn_dump.specs.declared.sections.Limits.{Limits}
 use Rattle.svn_dump.specs.declared.sections.Texts.{Texts}
 use Rattle.svn_history.specs.declared.fault.LoadFault.{LoadFault}
+use Rattle.svn_history.specs.Places.{anywhere}
 use Rattle.svn_history.specs.Parts.{Loading, LoadsOne, RefusesOne}
 
 module _ {L : Type 0} (limits : Limits) (texts : Texts) (hears : L → ℕ → ℕ → L → Type 0) where
@@ -16,4 +17,4 @@ module _ {L : Type 0} (limits : Limits) (texts : Texts) (hears : L → ℕ → �
 
   abbrev pub HearsAll : {X : Type 0} → Result X LoadFault → Loading → L → Loading → L → Type 0
   HearsAll (Ok x) old l new l' = Hears old l new l'
-  HearsAll (Err e) old l new l' = (last : Loading) × Hears old l last l' × RefusesOne limits texts last e new.draft.history
+  HearsAll (Err e) old l new l' = (last : Loading) × Hears old l last l' × RefusesOne limits texts anywhere last e new.draft.history

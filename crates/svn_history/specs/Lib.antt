@@ -3,6 +3,7 @@ pub mod Deltas
 pub mod Steps
 pub mod Changes
 pub mod Loading
+pub mod Places
 pub mod Parts
 pub mod Fronts
 pub mod Hearing

@@ -1,9 +1,10 @@
--- What a loader does with the nodes up to the next revision, or to the end: they are a part of the dump.
---     LoadsNodes limits texts old next new, RefusesNodes limits texts old e      the nodes' changes are made, or one of them is at fault
+-- What a loader does with the nodes up to the next revision, or to the end: they are a part of the dump. Of a record that is refused, or that begins the
+-- next revision, `at` says what holds of its place: of the revision that began last before it, and of the bytes that are left where it begins.
+--     LoadsNodes limits texts at old next new, RefusesNodes limits texts at old e      the nodes' changes are made, or one of them is at fault
 --     LoadsPart limits texts old new      a part is loaded: the revision that began is committed with its nodes, and the next one begins
---     RefusesPart limits texts old e h'      why a part isn't loaded, and what the history is then
---     LoadsOne limits texts old new done, RefusesOne limits texts old e h'      the same of one revision
---     LoadsRest limits texts old new, RefusesAll limits texts old e h'      the same of all revisions that are left
+--     RefusesPart limits texts at old e h'      why a part isn't loaded, and what the history is then
+--     LoadsOne limits texts old new done, RefusesOne limits texts at old e h'      the same of one revision
+--     LoadsRest limits texts old new, RefusesAll limits texts at old e h'      the same of all revisions that are left
 use Rattle.std.specs.Prelude.{◌≡◌, ℕ, ◌<◌, ◌≤◌, Bool, true, false, List, length, fold, Option, Some, None, Ok, Err, nat_lt, nat_eq, nat_le, is_some, not}
 use Rattle.std.specs.Prelude.{IsSome, MatchOption, if◌then◌else◌}
 use Rattle.svn_repo.specs.History.{History}
@@ -67,9 +68,10 @@ RefusesRecord texts rev (Node node) d e = Fails e (node_changes texts rev node d
 RefusesRecord texts rev (Revision number) d e = ⊥
 
 -- the nodes up to the next revision, whose number is given, or up to the end
-pub record LoadsNodes (limits : Limits) (texts : Texts) (old : Loading) (next : Option ℕ) (new : Loading) : Type 0 where
+pub record LoadsNodes (limits : Limits) (texts : Texts) (at : Option ℕ → List ℕ → Type 0) (old : Loading) (next : Option ℕ) (new : Loading)
+    : Type 0 where
   pub nodes : List NodeRecord
-  pub bytes : IfKnown old.left new.left (λ bytes rest. NodesAt limits texts bytes nodes next rest)
+  pub bytes : IfKnown old.left new.left (λ bytes rest. (read : NodesAt limits texts bytes nodes next rest) × at old.rev read.mid)
   pub made : IsMade (nodes_changes texts old.rev nodes) old.draft new.draft
 
 -- ---- one revision, and the next
@@ -123,23 +125,26 @@ pub data IsOutside (e : LoadFault) : Type 0 where
   read_fault : e ≡ faults.Dump dump.Read → IsOutside e
 
 -- the first record that is at fault, up to the next revision
-pub data NodesFault (limits : Limits) (texts : Texts) (rev : Option ℕ) (d : Draft) (bytes : List ℕ) (e : LoadFault) : Type 0 where
+pub data NodesFault (limits : Limits) (texts : Texts) (at : Option ℕ → List ℕ → Type 0) (rev : Option ℕ) (d : Draft) (bytes : List ℕ) (e : LoadFault)
+    : Type 0 where
   bad_record : (nodes : List NodeRecord) (mid : List ℕ) (read : Draft) (reason : Reason) → ReadsNodes limits texts bytes nodes mid
       → IsMade (nodes_changes texts rev nodes) d read → record_at limits texts mid ≡ Err reason → e ≡ faults.Dump (dump.Refused reason)
-      → NodesFault limits texts rev d bytes e
+      → at rev mid → NodesFault limits texts at rev d bytes e
   bad_node : (nodes : List NodeRecord) (mid rest : List ℕ) (read : Draft) (node : NodeRecord) → ReadsNodes limits texts bytes nodes mid
       → IsMade (nodes_changes texts rev nodes) d read → record_at limits texts mid ≡ Ok (Some (Node node), rest)
-      → node_changes texts rev node read ≡ Err e → NodesFault limits texts rev d bytes e
-  outside : IsOutside e → NodesFault limits texts rev d bytes e
+      → node_changes texts rev node read ≡ Err e → at rev mid → NodesFault limits texts at rev d bytes e
+  outside : IsOutside e → NodesFault limits texts at rev d bytes e
 
 -- what isn't known of the bytes isn't known of the fault
-abbrev pub RefusesNodes : Limits → Texts → Loading → LoadFault → Type 0
-RefusesNodes limits texts old e = MatchOption old.left (Unit {0}) (λ bytes. NodesFault limits texts old.rev old.draft bytes e)
+abbrev pub RefusesNodes : Limits → Texts → (Option ℕ → List ℕ → Type 0) → Loading → LoadFault → Type 0
+RefusesNodes limits texts at old e = MatchOption old.left (Unit {0}) (λ bytes. NodesFault limits texts at old.rev old.draft bytes e)
 
 -- the revision that began ends with the nodes up to the next one, whose number is given; they are those of the bytes, where these are known
-pub record EndsPart (limits : Limits) (texts : Texts) (old : Loading) (next : Option ℕ) (ended : History) : Type 0 where
+pub record EndsPart (limits : Limits) (texts : Texts) (at : Option ℕ → List ℕ → Type 0) (old : Loading) (next : Option ℕ) (ended : History)
+    : Type 0 where
   pub nodes : List NodeRecord
-  pub bytes : MatchOption old.left (Unit {0}) (λ bytes. (rest : List ℕ) × NodesAt limits texts bytes nodes next rest)
+  pub bytes : MatchOption old.left (Unit {0})
+      (λ bytes. (rest : List ℕ) × (read : NodesAt limits texts bytes nodes next rest) × at old.rev read.mid)
   pub read : Draft
   pub made : IsMade (nodes_changes texts old.rev nodes) old.draft read
   pub ended_is : Ends old.rev read ended
@@ -151,10 +156,11 @@ pub data RefusesNext (rev next : Option ℕ) (ended : History) (e : LoadFault) (
       → length h.roots < number → e ≡ faults.Memory → RefusesNext rev next ended e h
 
 -- a record of the revision that began is refused, and nothing of it is committed; or it is committed, and the next one is refused
-pub data RefusesPart (limits : Limits) (texts : Texts) (old : Loading) (e : LoadFault) (h : History) : Type 0 where
-  bad_nodes : RefusesNodes limits texts old e → h ≡ old.draft.history → RefusesPart limits texts old e h
-  bad_next : (next : Option ℕ) (ended : History) → EndsPart limits texts old next ended → RefusesNext old.rev next ended e h
-      → RefusesPart limits texts old e h
+pub data RefusesPart (limits : Limits) (texts : Texts) (at : Option ℕ → List ℕ → Type 0) (old : Loading) (e : LoadFault) (h : History) : Type 0
+  where
+    bad_nodes : RefusesNodes limits texts at old e → h ≡ old.draft.history → RefusesPart limits texts at old e h
+    bad_next : (next : Option ℕ) (ended : History) → EndsPart limits texts at old next ended → RefusesNext old.rev next ended e h
+        → RefusesPart limits texts at old e h
 
 -- ---- one revision
 
@@ -165,10 +171,11 @@ pub data LoadsOne (limits : Limits) (texts : Texts) (old new : Loading) (done : 
       → LoadsPart limits texts first new → LoadsOne limits texts old new done
   ends : old.rev ≡ None → LoadsPart limits texts old new → new.rev ≡ None → done ≡ None → LoadsOne limits texts old new done
 
-pub data RefusesOne (limits : Limits) (texts : Texts) (old : Loading) (e : LoadFault) (h : History) : Type 0 where
-  at_once : RefusesPart limits texts old e h → RefusesOne limits texts old e h
-  later : (first : Loading) → old.rev ≡ None → LoadsPart limits texts old first → IsSome first.rev → RefusesPart limits texts first e h
-      → RefusesOne limits texts old e h
+pub data RefusesOne (limits : Limits) (texts : Texts) (at : Option ℕ → List ℕ → Type 0) (old : Loading) (e : LoadFault) (h : History) : Type 0
+  where
+    at_once : RefusesPart limits texts at old e h → RefusesOne limits texts at old e h
+    later : (first : Loading) → old.rev ≡ None → LoadsPart limits texts old first → IsSome first.rev → RefusesPart limits texts at first e h
+        → RefusesOne limits texts at old e h
 
 -- ---- all revisions
 
@@ -188,7 +195,7 @@ abbrev pub LoadsRest : Limits → Texts → Loading → Loading → Type 0
 LoadsRest limits texts old new = MatchOption old.rev (LoadsAll limits texts old new) (λ _. LoadsOn limits texts old new)
 
 -- one revision after another is loaded, and one is refused
-pub data RefusesAll (limits : Limits) (texts : Texts) : Loading → LoadFault → History → Type 0 where
-  at_first : {old : Loading} {e : LoadFault} {h : History} → RefusesOne limits texts old e h → RefusesAll limits texts old e h
+pub data RefusesAll (limits : Limits) (texts : Texts) (at : Option ℕ → List ℕ → Type 0) : Loading → LoadFault → History → Type 0 where
+  at_first : {old : Loading} {e : LoadFault} {h : History} → RefusesOne limits texts at old e h → RefusesAll limits texts at old e h
   after_one : {old : Loading} {e : LoadFault} {h : History} (mid : Loading) (done : Option ℕ) → LoadsOne limits texts old mid done
-      → IsSome mid.rev → RefusesAll limits texts mid e h → RefusesAll limits texts old e h
+      → IsSome mid.rev → RefusesAll limits texts at mid e h → RefusesAll limits texts at old e h

@@ -16,7 +16,8 @@
 //! Promises: what a record changes is `record_changes` of `specs/Changes.antt`, with the first fault from left to right. A call of `next_revision`
 //! makes one commit of the records of one revision, with empty commits for the numbers that are left out (`one`). Where a record is refused,
 //! nothing of its revision is committed; where only the number of the next revision is refused, it is committed, and nothing after it (`fault`, by
-//! `RefusesPart` of `specs/Parts.antt`). A refusal stays (`refused`, `again`). `load_all` and `load_all_with` do so revision by revision, up to the
+//! `RefusesPart` of `specs/Parts.antt`). A refusal stays (`refused`, `again`), and [`Loader::refusal`] tells where the
+//! refused record is: its byte, its revision and its path are those of the first cause (`fault`, by `IsShown` of `specs/Places.antt`). `load_all` and `load_all_with` do so revision by revision, up to the
 //! end or the first refusal (`rest`, `fault`), and a listener hears of each revision once (`heard`). A dump that is loaded to its end is the bytes'
 //! revisions, each a commit (`dump`, by `Loads` of `specs/Loading.antt`). The UUID and the number of the first revision are what the dump says before
 //! that revision (`front`, by `HasFront` of `specs/Fronts.antt`), and stay (`kept`). What is written of a commit is one record for each of its changes, in

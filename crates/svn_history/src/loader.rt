@@ -6,10 +6,11 @@ ghost use Rattle.svn_dump.specs.Headers.{header_value, if_once};
 ghost use Rattle.svn_history.specs.Results.{Fails};
 ghost use Rattle.svn_history.specs.Steps.{IsMade, draft_of, begun};
 ghost use Rattle.svn_history.specs.Loading.{EmptyCommits, LoadsDump};
-ghost use Rattle.svn_dump.specs.Counts.{Grows};
+ghost use Rattle.svn_dump.specs.Counts.{Counts, Grows};
 ghost use Rattle.svn_dump.specs.Readers.{left_in, IsUnreadable};
 ghost use Rattle.svn_history.specs.Fronts.{FrontLoaded, given_uuid};
 ghost use Rattle.svn_history.specs.Hearing.{HearsAll};
+ghost use Rattle.svn_history.specs.Places.{IsShown};
 ghost use Rattle.svn_history.specs.Parts.{Begins, Ends, LoadsNodes, LoadsPart, LoadsOne, LoadsRest, RefusesNodes, RefusesNext, RefusesPart, RefusesOne, RefusesAll, RefusesRecord, Takes, begin_fault, is_open, loading, may_begin, node_changes};
 
 use crate::fault::LoadFault;
@@ -209,14 +210,15 @@ impl<R: Read + Drop> Loader<R> {
 
     // Makes the changes of the nodes up to the next revision, whose number is returned, or up to the end.
     fn load_nodes(&mut self) -> Result<Option<Rev>, LoadFault>
-        ensures nodes { IfOk result (λ next. LoadsNodes self.old.records.limits self.old.records.texts (loading R.remaining self.old) next (loading R.remaining self.new)) }
-        ensures fault { IfErr result (RefusesNodes self.old.records.limits self.old.records.texts (loading R.remaining self.old)) }
+        ensures nodes { IfOk result (λ next. LoadsNodes self.old.records.limits self.old.records.texts (IsShown R.remaining self.old self.new) (loading R.remaining self.old) next (loading R.remaining self.new)) }
+        ensures fault { IfErr result (RefusesNodes self.old.records.limits self.old.records.texts (IsShown R.remaining self.old self.new) (loading R.remaining self.old)) }
         ensures history { self.new.transaction.history ≡ self.old.transaction.history }
         ensures rev { self.new.rev ≡ self.old.rev }
         ensures limits { self.new.records.limits ≡ self.old.records.limits }
         ensures texts { self.new.records.texts ≡ self.old.records.texts }
         ensures read { IfErr result (λ e. e ≡ LoadFault.Dump DumpFault.Read → IsUnreadable self.new.records) }
         ensures grown { IfOk result (λ next. IsSome next → Grows self.old.records.source.taken 1 self.new.records.source.taken) }
+        ensures counted { OnOk result (Counts self.old.records.source.taken (left_in R.remaining self.old.records) self.new.records.source.taken (left_in R.remaining self.new.records)) }
         ensures front { IfOk result (λ next. self.old.rev ≡ None → self.old.front.first ≡ None → FrontLoaded R.remaining self.old self.new.front.uuid next) }
         ensures first { self.new.front.first ≡ self.old.front.first }
         ensures kept { IsSome self.old.front.first → self.new.front ≡ self.old.front }
@@ -285,6 +287,7 @@ impl<R: Read + Drop> Loader<R> {
         ensures begins { OnOk result (Begins self.old.rev next self.old.transaction.history self.new.transaction.history) }
         ensures begun { draft_of self.new.transaction ≡ begun self.new.transaction.history }
         ensures rev { OnOk result (self.new.rev ≡ next) }
+        ensures stays { IfErr result (λ _. self.new.rev ≡ self.old.rev) }
         ensures fault { IfErr result (λ e. RefusesNext self.old.rev next self.old.transaction.history e self.new.transaction.history) }
         ensures records { self.new.records ≡ self.old.records }
         ensures uuid { self.new.front.uuid ≡ self.old.front.uuid }
@@ -307,11 +310,12 @@ impl<R: Read + Drop> Loader<R> {
     #[tactic(auto, using(crate::proofs::Endings::part_by, crate::proofs::Endings::nodes_refused, crate::proofs::Endings::end_refused, crate::proofs::Endings::next_refused))]
     fn load_part(&mut self) -> Result<(), LoadFault>
         ensures part { OnOk result (LoadsPart self.old.records.limits self.old.records.texts (loading R.remaining self.old) (loading R.remaining self.new)) }
-        ensures fault { IfErr result (λ e. RefusesPart self.old.records.limits self.old.records.texts (loading R.remaining self.old) e self.new.transaction.history) }
+        ensures fault { IfErr result (λ e. RefusesPart self.old.records.limits self.old.records.texts (IsShown R.remaining self.old self.new) (loading R.remaining self.old) e self.new.transaction.history) }
         ensures limits { self.new.records.limits ≡ self.old.records.limits }
         ensures texts { self.new.records.texts ≡ self.old.records.texts }
         ensures read { IfErr result (λ e. e ≡ LoadFault.Dump DumpFault.Read → IsUnreadable self.new.records) }
         ensures grown { OnOk result (IsSome self.new.rev → Grows self.old.records.source.taken 1 self.new.records.source.taken) }
+        ensures counted { OnOk result (Counts self.old.records.source.taken (left_in R.remaining self.old.records) self.new.records.source.taken (left_in R.remaining self.new.records)) }
         ensures front { OnOk result (self.old.rev ≡ None → self.old.front.first ≡ None → FrontLoaded R.remaining self.old self.new.front.uuid self.new.front.first) }
         ensures kept { IsSome self.old.front.first → self.new.front ≡ self.old.front }
         ensures known { OnOk result (IsSome self.new.rev → IsSome self.new.front.first) }
@@ -324,11 +328,12 @@ impl<R: Read + Drop> Loader<R> {
     // Loads the revision that began.
     fn load_next(&mut self) -> Result<Option<Rev>, LoadFault>
         ensures part { IfOk result (λ done. (done ≡ self.old.rev) × LoadsPart self.old.records.limits self.old.records.texts (loading R.remaining self.old) (loading R.remaining self.new)) }
-        ensures fault { IfErr result (λ e. RefusesPart self.old.records.limits self.old.records.texts (loading R.remaining self.old) e self.new.transaction.history) }
+        ensures fault { IfErr result (λ e. RefusesPart self.old.records.limits self.old.records.texts (IsShown R.remaining self.old self.new) (loading R.remaining self.old) e self.new.transaction.history) }
         ensures limits { self.new.records.limits ≡ self.old.records.limits }
         ensures texts { self.new.records.texts ≡ self.old.records.texts }
         ensures read { IfErr result (λ e. e ≡ LoadFault.Dump DumpFault.Read → IsUnreadable self.new.records) }
         ensures grown { OnOk result (IsSome self.new.rev → Grows self.old.records.source.taken 1 self.new.records.source.taken) }
+        ensures counted { OnOk result (Counts self.old.records.source.taken (left_in R.remaining self.old.records) self.new.records.source.taken (left_in R.remaining self.new.records)) }
         ensures kept { IsSome self.old.front.first → self.new.front ≡ self.old.front }
         ensures known { OnOk result (IsSome self.new.rev → IsSome self.new.front.first) }
     {
@@ -342,11 +347,12 @@ impl<R: Read + Drop> Loader<R> {
     fn load_first(&mut self) -> Result<Option<Rev>, LoadFault>
         requires { self.old.rev ≡ None }
         ensures one { IfOk result (LoadsOne self.old.records.limits self.old.records.texts (loading R.remaining self.old) (loading R.remaining self.new)) }
-        ensures fault { IfErr result (λ e. RefusesOne self.old.records.limits self.old.records.texts (loading R.remaining self.old) e self.new.transaction.history) }
+        ensures fault { IfErr result (λ e. RefusesOne self.old.records.limits self.old.records.texts (IsShown R.remaining self.old self.new) (loading R.remaining self.old) e self.new.transaction.history) }
         ensures limits { self.new.records.limits ≡ self.old.records.limits }
         ensures texts { self.new.records.texts ≡ self.old.records.texts }
         ensures read { IfErr result (λ e. e ≡ LoadFault.Dump DumpFault.Read → IsUnreadable self.new.records) }
         ensures grown { OnOk result (IsSome self.new.rev → Grows self.old.records.source.taken 1 self.new.records.source.taken) }
+        ensures counted { OnOk result (Counts self.old.records.source.taken (left_in R.remaining self.old.records) self.new.records.source.taken (left_in R.remaining self.new.records)) }
         ensures front { OnOk result (self.old.rev ≡ None → self.old.front.first ≡ None → FrontLoaded R.remaining self.old self.new.front.uuid self.new.front.first) }
         ensures kept { IsSome self.old.front.first → self.new.front ≡ self.old.front }
         ensures known { OnOk result (IsSome self.new.rev → IsSome self.new.front.first) }
@@ -362,11 +368,12 @@ impl<R: Read + Drop> Loader<R> {
     #[tactic(auto, using(crate::specs::Parts::goes_on, crate::specs::Parts::at_once))]
     fn load_one(&mut self) -> Result<Option<Rev>, LoadFault>
         ensures one { IfOk result (LoadsOne self.old.records.limits self.old.records.texts (loading R.remaining self.old) (loading R.remaining self.new)) }
-        ensures fault { IfErr result (λ e. RefusesOne self.old.records.limits self.old.records.texts (loading R.remaining self.old) e self.new.transaction.history) }
+        ensures fault { IfErr result (λ e. RefusesOne self.old.records.limits self.old.records.texts (IsShown R.remaining self.old self.new) (loading R.remaining self.old) e self.new.transaction.history) }
         ensures limits { self.new.records.limits ≡ self.old.records.limits }
         ensures texts { self.new.records.texts ≡ self.old.records.texts }
         ensures read { IfErr result (λ e. e ≡ LoadFault.Dump DumpFault.Read → IsUnreadable self.new.records) }
         ensures grown { OnOk result (IsSome self.new.rev → Grows self.old.records.source.taken 1 self.new.records.source.taken) }
+        ensures counted { OnOk result (Counts self.old.records.source.taken (left_in R.remaining self.old.records) self.new.records.source.taken (left_in R.remaining self.new.records)) }
         ensures front { OnOk result (self.old.rev ≡ None → self.old.front.first ≡ None → FrontLoaded R.remaining self.old self.new.front.uuid self.new.front.first) }
         ensures kept { IsSome self.old.front.first → self.new.front ≡ self.old.front }
         ensures known { OnOk result (IsSome self.new.rev → IsSome self.new.front.first) }
@@ -383,13 +390,14 @@ impl<R: Read + Drop> Loader<R> {
     /// commits there. [`Loader::refusal`] says what was refused, and where, and each further call is refused for the same reason.
     pub fn next_revision(&mut self) -> Result<Option<Rev>, LoadFault>
         ensures one { IfOk result (LoadsOne self.old.records.limits self.old.records.texts (loading R.remaining self.old) (loading R.remaining self.new)) }
-        ensures fault { IfErr result (λ e. self.old.refused ≡ None → RefusesOne self.old.records.limits self.old.records.texts (loading R.remaining self.old) e self.new.transaction.history) }
+        ensures fault { IfErr result (λ e. self.old.refused ≡ None → RefusesOne self.old.records.limits self.old.records.texts (IsShown R.remaining self.old self.new) (loading R.remaining self.old) e self.new.transaction.history) }
         ensures refused { self.new.refused ≡ result_err result }
         ensures again { IfSome self.old.refused (λ e. (result ≡ Err e) × (self.new ≡ self.old)) }
         ensures limits { self.new.records.limits ≡ self.old.records.limits }
         ensures texts { self.new.records.texts ≡ self.old.records.texts }
         ensures read { IfErr result (λ e. self.old.refused ≡ None → e ≡ LoadFault.Dump DumpFault.Read → IsUnreadable self.new.records) }
         ensures grown { OnOk result (IsSome self.new.rev → Grows self.old.records.source.taken 1 self.new.records.source.taken) }
+        ensures counted { OnOk result (Counts self.old.records.source.taken (left_in R.remaining self.old.records) self.new.records.source.taken (left_in R.remaining self.new.records)) }
         ensures front { OnOk result (self.old.rev ≡ None → self.old.front.first ≡ None → FrontLoaded R.remaining self.old self.new.front.uuid self.new.front.first) }
         ensures kept { IsSome self.old.front.first → self.new.front ≡ self.old.front }
         ensures known { OnOk result (IsSome self.new.rev → IsSome self.new.front.first) }
@@ -415,7 +423,7 @@ impl<R: Read + Drop> Loader<R> {
         ensures rest { OnOk result (LoadsRest self.old.records.limits self.old.records.texts (loading R.remaining self.old) (loading R.remaining self.new)) }
         // from the beginning, it is the whole dump that is loaded
         ensures dump { OnOk result (self.old.rev ≡ None → draft_of self.old.transaction ≡ begun self.old.transaction.history → LoadsDump self.old.records.limits self.old.records.texts (left_in R.remaining self.old.records) self.old.transaction.history self.new.transaction.history) }
-        ensures fault { IfErr result (λ e. self.old.refused ≡ None → RefusesAll self.old.records.limits self.old.records.texts (loading R.remaining self.old) e self.new.transaction.history) }
+        ensures fault { IfErr result (λ e. self.old.refused ≡ None → RefusesAll self.old.records.limits self.old.records.texts (IsShown R.remaining self.old self.new) (loading R.remaining self.old) e self.new.transaction.history) }
         ensures again { IfSome self.old.refused (λ e. (result ≡ Err e) × (self.new ≡ self.old)) }
         ensures refused { IfErr result (λ e. self.new.refused ≡ Some e) }
         ensures read { IfErr result (λ e. self.old.refused ≡ None → e ≡ LoadFault.Dump DumpFault.Read → IsUnreadable self.new.records) }
@@ -431,7 +439,7 @@ impl<R: Read + Drop> Loader<R> {
         ensures rest { OnOk result (LoadsRest self.old.records.limits self.old.records.texts (loading R.remaining self.old) (loading R.remaining self.new)) }
         // from the beginning, it is the whole dump that is loaded
         ensures dump { OnOk result (self.old.rev ≡ None → draft_of self.old.transaction ≡ begun self.old.transaction.history → LoadsDump self.old.records.limits self.old.records.texts (left_in R.remaining self.old.records) self.old.transaction.history self.new.transaction.history) }
-        ensures fault { IfErr result (λ e. self.old.refused ≡ None → RefusesAll self.old.records.limits self.old.records.texts (loading R.remaining self.old) e self.new.transaction.history) }
+        ensures fault { IfErr result (λ e. self.old.refused ≡ None → RefusesAll self.old.records.limits self.old.records.texts (IsShown R.remaining self.old self.new) (loading R.remaining self.old) e self.new.transaction.history) }
         ensures again { IfSome self.old.refused (λ e. (result ≡ Err e) × (self.new ≡ self.old) × (listener.new ≡ listener.old)) }
         // it hears of each revision once, in their order
         ensures heard { self.old.refused ≡ None → HearsAll self.old.records.limits self.old.records.texts L.hears result (loading R.remaining self.old) listener.old (loading R.remaining self.new) listener.new }

@@ -18,7 +18,7 @@ Status 2: an argument, the dump, a copy, or a line of the script was refused.
 
 Example: svnadmin dump repo | svnaudit check - copy";
 
-const WAYS: &[&str] = &["sha1", "whole"];
+const WAYS: &[&str] = &["sha1", "md5", "whole"];
 
 /// `show DUMP REV [PATH]`: print the tree at a path of a revision.
 #[derive(Clone, Copy, Debug)]
@@ -102,7 +102,7 @@ fn texts_option<'a>(alloc: Global) -> Arg<'a> {
         .value_name("HOW")
         .value_parser(WAYS)
         .default_value("sha1")
-        .help("Keep each text whole, or its SHA-1 checksum alone")
+        .help("Keep each text whole, or its SHA-1 or MD5 checksum alone")
 }
 
 fn show_command<'a>(alloc: Global) -> Result<Command<'a>, AllocError> {
@@ -223,6 +223,7 @@ fn command<'a>(alloc: Global) -> Result<Command<'a>, AllocError> {
 fn texts_of(matches: &ArgMatches<'_>) -> Texts {
     match matches.get_str("texts") {
         Some("whole") => Texts::Whole,
+        Some("md5") => Texts::Md5,
         _ => Texts::Sha1,
     }
 }

@@ -6,7 +6,7 @@ use std::{fmt, io};
 use svn_answers::BusyFault;
 use svn_disk_audit::PristineRefusal;
 use svn_editor::PathWord;
-use svn_history::LoadFault;
+use svn_repo::CommitFault;
 use svn_types::{PathFault, RelPath, Rev};
 
 /// Why nothing is done, or no more than was.
@@ -30,8 +30,8 @@ pub(crate) enum Fault {
     BadLine(u64),
     /// The line of this number is longer than a line may be.
     LongLine(u64),
-    /// The change or the commit of the line of this number can't be made.
-    Refused(u64, LoadFault),
+    /// The change of the line of this number can't be made.
+    Refused(u64, CommitFault),
     /// The folder is in no working copy.
     NoCopy,
     /// It is a file, and no folder.

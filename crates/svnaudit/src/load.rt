@@ -27,8 +27,9 @@ fn advice(fault: LoadFault, texts: Texts) -> &'static str {
             Texts::Whole,
         ) => " (try --texts sha1)",
         (LoadFault::Dump(DumpFault::Refused(Reason::NoSha1)), Texts::Sha1) => {
-            " (try --texts whole)"
+            " (try --texts md5)"
         }
+        (LoadFault::Dump(DumpFault::Refused(Reason::NoMd5)), Texts::Md5) => " (try --texts sha1)",
         _ => "",
     }
 }

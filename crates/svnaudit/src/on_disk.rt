@@ -1,4 +1,5 @@
 //! Working copies on disk, read and not changed.
+ghost use Rattle.svnaudit.specs.Faults.{is_memory};
 
 use crate::database::Database;
 use crate::fault::Fault;
@@ -42,6 +43,8 @@ impl<'a, T: Files + AllocGlobal> Copies for Folders<'a, T> {
     type Fault = Fault;
 
     type Examiner = OpenFolder<'a, T>;
+
+    ghost lacks_memory = { λ _ fault. is_memory fault };
 
     fn is_memory(&self, fault: &Fault) -> bool {
         matches!(fault, Fault::Memory)

@@ -51,11 +51,3 @@ pub(crate) fn error_writer<T: Eprint + AllocGlobal>(
         Err(_) => Err(Fault::Memory),
     }
 }
-
-/// Writes bytes.
-pub(crate) fn write_bytes<T: Print>(rt: &T, bytes: &[u8]) -> Result<(), Fault> {
-    match io::writer(rt).write_all(bytes) {
-        Ok(()) => Ok(()),
-        Err(_) => Err(Fault::Write),
-    }
-}

@@ -8,16 +8,16 @@ use crate::on_disk::Folders;
 use crate::output::{error_writer, output_writer};
 use crate::progress::Progress;
 use std::fs::File;
-use std::io::Read;
+use std::io::{Read, Write};
 use std::rt::{Clock, Files};
-use svn_answers::{AnswerFault, Asked, History, Notices, Verdict, WrittenNotices};
+use svn_answers::{AnswerFault, Asked, History, Verdict, WrittenNotices};
 
-// Answers what is asked, and has notices heard.
-fn answer_with<T: Files + Print + AllocGlobal, N: Notices<Fault>>(
-    rt: &T,
+// Answers what is asked, on both streams.
+fn answer_with<'a, T: Files + Print + AllocGlobal, E: Write>(
+    rt: &'a T,
     history: History<'_>,
     subject: &Subject<'_>,
-    notices: &mut N,
+    errors: &mut WrittenNotices<'_, Folders<'a, T>, E>,
 ) -> Result<Verdict, Fault> {
     let asked = Asked {
         alloc: rt.alloc(),
@@ -26,8 +26,8 @@ fn answer_with<T: Files + Print + AllocGlobal, N: Notices<Fault>>(
     };
     let mut output = output_writer(rt)?;
     let answered = match subject {
-        Subject::Check(names) => asked.check(names, &mut output, notices),
-        Subject::Copy(inquiry, name) => asked.answer(*inquiry, name, &mut output, notices),
+        Subject::Check(names) => asked.check_written(names, &mut output, errors),
+        Subject::Copy(inquiry, name) => asked.answer_written(*inquiry, name, &mut output, errors),
     };
     match answered {
         Ok(verdict) => Ok(verdict),
@@ -40,11 +40,9 @@ fn answer_copies<T: Files + Print + Eprint + AllocGlobal>(
     history: History<'_>,
     subject: &Subject<'_>,
 ) -> Result<Verdict, Fault> {
-    let mut notices = WrittenNotices {
-        copies: &Folders { rt },
-        output: error_writer(rt)?,
-    };
-    answer_with(rt, history, subject, &mut notices)
+    let copies = Folders { rt };
+    let mut errors = WrittenNotices::new(&copies, error_writer(rt)?);
+    answer_with(rt, history, subject, &mut errors)
 }
 
 fn ask_of<T: Files + Input + Print + Eprint + Clock + AllocGlobal, R: Read + Drop>(

@@ -3,79 +3,21 @@
 use crate::command_line::Write;
 use crate::fault::Fault;
 use crate::lines::Lines;
-use crate::output::write_bytes;
 use crate::progress::Progress;
-use std::alloc::Global;
 use std::fs::File;
+use std::io;
 use std::io::Read;
 use std::rt::{Clock, Files};
-use svn_history::{HistoryWriter, LoadFault, push_beginning};
-use svn_repo::{Change, Repo};
-use svn_script::{Command, LineFault, read_command, without_return};
+use svn_answers::{WriteFault, Writing};
 use svn_types::Rev;
 
-/// A history, and what isn't written yet of the dump that it is written as.
-#[derive(Drop)]
-struct Writing {
-    writer: HistoryWriter,
-    unwritten: Vec<u8>,
-    written: u64,
-}
-
-impl Writing {
-    fn new(alloc: Global) -> Result<Writing, Fault> {
-        let mut unwritten = Vec::new(alloc);
-        let (Ok(()), Ok(repo)) = (push_beginning(&mut unwritten), Repo::new(alloc)) else {
-            return Err(Fault::Memory);
-        };
-        Ok(Writing {
-            writer: HistoryWriter::new(alloc, repo),
-            unwritten,
-            written: 0,
-        })
-    }
-
-    // Writes what is ready.
-    fn write_ready<T: Print>(&mut self, rt: &T) -> Result<(), Fault> {
-        write_bytes(rt, &self.unwritten)?;
-        self.written = self.written.saturating_add(self.unwritten.len() as u64);
-        self.unwritten.clear();
-        Ok(())
-    }
-
-    // Makes the change of the line of this number.
-    fn change(&mut self, number: u64, change: &Change) -> Result<(), Fault> {
-        match self.writer.change(change) {
-            Ok(()) => Ok(()),
-            Err(LoadFault::Memory) => Err(Fault::Memory),
-            Err(fault) => Err(Fault::Refused(number, fault)),
-        }
-    }
-
-    // Commits the changes so far, and writes the revision.
-    fn commit<T: Print>(&mut self, rt: &T) -> Result<(), Fault> {
-        // its only fault is Memory
-        if self.writer.commit(&mut self.unwritten).is_err() {
-            return Err(Fault::Memory);
-        }
-        self.write_ready(rt)
-    }
-}
-
-// Does what a line says of the repository. Lines about a working copy do nothing to it, and so nothing here.
-fn do_line<T: Print>(
-    rt: &T,
-    alloc: Global,
-    line: &[u8],
-    number: u64,
-    writing: &mut Writing,
-) -> Result<(), Fault> {
-    match read_command(alloc, without_return(line)) {
-        Ok(Command::Change(change)) => writing.change(number, &change),
-        Ok(Command::Commit) => writing.commit(rt),
-        Ok(_) => Ok(()),
-        Err(LineFault::Bad) => Err(Fault::BadLine(number)),
-        Err(LineFault::Memory) => Err(Fault::Memory),
+// What the fault of the line of this number is to the program.
+fn fault_of(number: u64, fault: WriteFault) -> Fault {
+    match fault {
+        WriteFault::BadLine => Fault::BadLine(number),
+        WriteFault::Refused(fault) => Fault::Refused(number, fault),
+        WriteFault::Write => Fault::Write,
+        WriteFault::Memory => Fault::Memory,
     }
 }
 
@@ -90,8 +32,10 @@ fn do_lines<T: Print + Eprint + Clock + AllocGlobal, R: Read + Drop>(
         if !lines.read_next()? {
             return Ok(());
         }
-        do_line(rt, rt.alloc(), lines.line(), lines.number(), writing)?;
-        progress.report(writing.writer.latest(), writing.written);
+        if let Err(fault) = writing.do_line(lines.line(), &mut io::writer(rt)) {
+            return Err(fault_of(lines.number(), fault));
+        }
+        progress.report(writing.latest(), writing.written());
     }
     Ok(())
 }
@@ -102,10 +46,12 @@ fn write_history<T: Print + Eprint + Clock + AllocGlobal, R: Read + Drop>(
     asked: bool,
 ) -> Result<(), Fault> {
     let mut lines = Lines::new(rt.alloc(), input)?;
-    let mut writing = Writing::new(rt.alloc())?;
     let mut progress = Progress::begin(rt, asked);
-    writing.write_ready(rt)?;
-    progress.report(Rev(0), writing.written);
+    let mut writing = match Writing::begin(rt.alloc(), &mut io::writer(rt)) {
+        Ok(writing) => writing,
+        Err(fault) => return Err(fault_of(0, fault)),
+    };
+    progress.report(Rev(0), writing.written());
     do_lines(rt, &mut lines, &mut writing, &mut progress)?;
     progress.end();
     Ok(())

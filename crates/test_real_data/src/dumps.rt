@@ -1,8 +1,8 @@
 //! Dumps of Subversion, loaded and compared with what Subversion itself has in each of their revisions; dumps that are refused; broken ones; and a
 //! history that is written as a dump and loaded again.
 //!
-//! `data/dumps` has each dump with its trees, of all revisions one after another, in the lines that a checkout of each is printed in: NAME.sha1 with texts as
-//! their SHA-1 checksums, and NAME.whole; and NAME.lines, with for each node a number that no other node has. `examples/subversion/dump_data.sh` has
+//! `data/dumps` has each dump with its trees, of all revisions one after another, in the lines that a checkout of each is printed in: NAME.sha1 and NAME.md5
+//! with texts as their checksums, and NAME.whole; and NAME.lines, with for each node a number that no other node has. `examples/subversion/dump_data.sh` has
 //! Subversion make them. A dump that can't be loaded so has the refusal.
 mod alterations;
 mod bases;
@@ -48,6 +48,12 @@ fn compare_dump<R: Files + AllocGlobal + Print>(rt: &R, name: &str) -> Result<()
         name,
         "sha1",
         &history::outcome(alloc, &dump, Texts::Sha1)?,
+    )?;
+    compare(
+        rt,
+        name,
+        "md5",
+        &history::outcome(alloc, &dump, Texts::Md5)?,
     )?;
     compare(
         rt,

@@ -1,5 +1,6 @@
 //! What Subversion wrote, read and compared with what Subversion itself says of it: text deltas, dumps, databases of working
-//! copies, and working copies with their histories. Each is a module; all but the first have a folder of data.
+//! copies, and working copies with their histories; and what a script makes. Each is a module; all but the first and the last have a
+//! folder of data.
 #![tactic(auto)]
 
 mod copies;
@@ -8,6 +9,7 @@ mod deltas;
 mod dumps;
 mod names;
 mod say;
+mod scripts;
 
 use anyhow::Result;
 use std::env;
@@ -18,5 +20,6 @@ fn main(rt: HostRuntime) -> Result<()> {
     dumps::run(&rt)?;
     let words: Vec<String> = env::args(&rt)?.collect(rt.alloc())?;
     databases::run(&rt, &words)?;
-    copies::run(&rt)
+    copies::run(&rt)?;
+    scripts::run(&rt)
 }

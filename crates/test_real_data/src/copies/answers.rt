@@ -1,8 +1,8 @@
 //! What `check` answers, of copies in memory.
-ghost use Rattle.std.specs.Prelude.{Some};
+ghost use Rattle.std.specs.Prelude.{false, Some};
 
 use super::files::history_of;
-use anyhow::Result;
+use anyhow::{Result, ensure};
 use std::alloc::Global;
 use std::rt::Files;
 use std::{fmt, fs};
@@ -38,6 +38,8 @@ struct OneText(&'static [u8]);
 struct Refused(&'static str);
 
 impl fmt::Display for Refused {
+    ghost output = { λ r. Some r.0.now };
+
     fn fmt<W: fmt::Write>(&self, f: &mut fmt::Formatter<W>) -> fmt::Result {
         f.write_str(self.0)
     }
@@ -67,6 +69,8 @@ impl Copies for InMemory<'_> {
     type Fault = Refused;
 
     type Examiner = OneText;
+
+    ghost lacks_memory = { λ _ _. false };
 
     fn is_memory(&self, _fault: &Refused) -> bool {
         false
@@ -119,11 +123,9 @@ fn answers_of<C: Copies>(
         copies,
     };
     let mut lines = Vec::new(alloc);
-    let mut notices = WrittenNotices {
-        copies,
-        output: Vec::new(alloc),
-    };
-    let verdict = asked.check(names, &mut lines, &mut notices)?;
+    let mut notices = WrittenNotices::new(copies, Vec::new(alloc));
+    let verdict = asked.check_written(names, &mut lines, &mut notices)?;
+    ensure!(!notices.failed, "a notice isn't written");
     Ok((verdict.status(), lines, notices.output))
 }
 

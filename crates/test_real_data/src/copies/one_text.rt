@@ -97,8 +97,9 @@ fn audit_rows<R: Files + AllocGlobal + Print>(rt: &R, texts: Texts, how: &str) -
     Ok(())
 }
 
-/// Audits the copy with its text and with others, kept as stand-ins and whole.
+/// Audits the copy with its text and with others, kept as stand-ins, by MD5 and whole.
 pub(crate) fn audit_with_texts<R: Files + AllocGlobal + Print>(rt: &R) -> Result<()> {
     audit_rows(rt, Texts::Sha1, "as stand-ins")?;
+    audit_rows(rt, Texts::Md5, "by MD5")?;
     audit_rows(rt, Texts::Whole, "whole")
 }

@@ -28,7 +28,12 @@ const FIRST: &str = ". dir 1 .\nd dir 1 d\nf file 1 f \"\"\n";
 const FIRST_BY_SHA1: &str =
     ". dir 1 .\nd dir 1 d\nf file 1 f $sha1$da39a3ee5e6b4b0d3255bfef95601890afd80709\n";
 
+const FIRST_BY_MD5: &str =
+    ". dir 1 .\nd dir 1 d\nf file 1 f $md5$d41d8cd98f00b204e9800998ecf8427e\n";
+
 type Record = (&'static str, Reason);
+
+type RecordBy = (&'static str, Texts, Reason);
 
 static BAD_RECORDS: [Record; 32] = [
     (
@@ -149,11 +154,19 @@ static BAD_RECORDS: [Record; 32] = [
     ),
 ];
 
-// The same where texts are kept as their checksums.
-static BAD_BY_SHA1: [Record; 1] = [(
-    "Node-path: a\nNode-kind: file\nNode-action: add\nText-delta: true\nText-content-length: 9\nContent-length: 9\n\nSVN\x00\x00\x00\x01\x00\x01\n\n",
-    Reason::NoSha1,
-)];
+// The same where texts are kept as their checksums, each with the other checksum.
+static BAD_BY_SUM: [RecordBy; 2] = [
+    (
+        "Node-path: a\nNode-kind: file\nNode-action: add\nText-delta: true\nText-content-length: 9\nText-content-md5: 900150983cd24fb0d6963f7d28e17f72\nContent-length: 9\n\nSVN\x00\x00\x00\x01\x00\x01\n\n",
+        Texts::Sha1,
+        Reason::NoSha1,
+    ),
+    (
+        "Node-path: a\nNode-kind: file\nNode-action: add\nText-delta: true\nText-content-length: 9\nText-content-sha1: a9993e364706816aba3e25717850c26c9cd0d89d\nContent-length: 9\n\nSVN\x00\x00\x00\x01\x00\x01\n\n",
+        Texts::Md5,
+        Reason::NoMd5,
+    ),
+];
 
 type BadChange = (&'static str, LoadFault, u64);
 
@@ -228,8 +241,8 @@ fn bad_records() -> &'static [Record] {
     &BAD_RECORDS
 }
 
-fn bad_by_sha1() -> &'static [Record] {
-    &BAD_BY_SHA1
+fn bad_by_sum() -> &'static [RecordBy] {
+    &BAD_BY_SUM
 }
 
 fn bad_changes() -> &'static [BadChange] {
@@ -245,6 +258,7 @@ fn has_first(alloc: Global, repo: &Repo, texts: Texts, latest: u64) -> Result<bo
     let wanted = match texts {
         Texts::Whole => FIRST,
         Texts::Sha1 => FIRST_BY_SHA1,
+        Texts::Md5 => FIRST_BY_MD5,
     };
     Ok(repo.latest() == Rev(latest) && tree(alloc, repo, 1)?.as_str() == wanted)
 }
@@ -312,15 +326,15 @@ fn note_bytes(out: &mut String) -> Result<()> {
     note(out, "the records of bytes", 0, is_refused)
 }
 
-fn note_record_by_sha1(out: &mut String, row: usize, record: &Record) -> Result<()> {
-    let (text, reason) = *record;
-    let is_refused = is_unread(*out.allocator(), text.as_bytes(), Texts::Sha1, reason)?;
-    note(out, "the records by SHA-1", row, is_refused)
+fn note_record_by_sum(out: &mut String, row: usize, record: &RecordBy) -> Result<()> {
+    let (text, texts, reason) = *record;
+    let is_refused = is_unread(*out.allocator(), text.as_bytes(), texts, reason)?;
+    note(out, "the records by checksums", row, is_refused)
 }
 
-fn note_records_by_sha1(out: &mut String) -> Result<()> {
-    for (row, record) in bad_by_sha1().iter().enumerate() {
-        note_record_by_sha1(out, row, record)?;
+fn note_records_by_sum(out: &mut String) -> Result<()> {
+    for (row, record) in bad_by_sum().iter().enumerate() {
+        note_record_by_sum(out, row, record)?;
     }
     Ok(())
 }
@@ -369,7 +383,7 @@ fn note_all(out: &mut String) -> Result<()> {
     note_early_node(out)?;
     note_records(out)?;
     note_bytes(out)?;
-    note_records_by_sha1(out)?;
+    note_records_by_sum(out)?;
     note_changes(out)
 }
 

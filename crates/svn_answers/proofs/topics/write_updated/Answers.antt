@@ -6,7 +6,7 @@ use Rattle.svn_wc.specs.contracts.applier.ApplierEditor.TheImpl.{ghosts as appli
 use Rattle.svn_wc.specs.declared.applier.Applier.{Applier}
 use Rattle.svn_drive.specs.Requests.{requested}
 use Rattle.svn_answers.specs.Topics.{AreLeft, update_to, calls_to, IsNodesFault}
-use Rattle.svn_answers.proofs.Refusing.{nodes_refused, nodes_left}
+use Rattle.svn_answers.proofs.Refusing.{nodes_refused, nodes_left, target_is_there}
 use Rattle.svn_answers.proofs.topics.write_updated.Goals as goal
 
 pub returns-in-Ok-drive_request-clause-written : goal.returns-in-Ok-drive_request-clause-written
@@ -19,12 +19,17 @@ returns-in-Ok-drive_request-clause-written g c =
     nodes_left h nodes c.args.rev applier.answers _ _ c.in_ok-report.ensures.report asked _ _ (λ (a : Applier). a.edit)
     (λ (a : Applier). a.copy.now) (λ (a : Applier). a.mode) (λ m n call answer took. (took.0, took.1)) (c.in-Ok.ensures.begun, c.in-Ok.ensures.mode) _
     c.in-Ok-drive_request.ensures.calls in
+    let there =
+    target_is_there h nodes c.args.rev applier.answers _ _ c.in_ok-report.ensures.report asked _ _ _ c.in-Ok-drive_request.ensures.calls in
+    let left_of : AreLeft nodes (calls_to h nodes c.args.rev) c.copy.result.now =
+    subst (AreLeft nodes (calls_to h nodes c.args.rev)) (sym c.copy.ensures) left in
     on_ok_weaker c.write_nodes.result
     (λ written. (
       _,
       record {
         updated = c.copy.result.now;
-        left = subst (AreLeft nodes (calls_to h nodes c.args.rev)) (sym c.copy.ensures) left;
+        left = left_of;
+        target = λ true_of p. left_of p ∙ c.updates_lead_to_targets.ensures true_of c.args.rev there p;
         in_order = c.write_nodes.ensures.in_order;
         lines = refl;
       },

@@ -1,9 +1,9 @@
 use Rattle.std.proofs.Common.{◌≡◌, [], ◌∷◌, ◌++◌, List, refl, sym, ap, subst, ◌∙◌, append-nil, append_assoc}
-use Rattle.std.specs.Prelude.{All}
 use Rattle.std.specs.Vec.Iter.{into_iter_items}
 use Rattle.svn_types.specs.Names.{Path}
 use Rattle.svn_model.specs.declared.base_node.BaseNode.{BaseNode}
-use Rattle.svn_disk_audit.specs.Pristine.{Store, HasText, AreKeptAs}
+use Rattle.svn_disk_audit.specs.Pristine.{Store, AreKeptAs}
+use Rattle.svn_disk_audit.specs.Keeping.{HasRead}
 use Rattle.svn_disk_audit.proofs.KeptTexts.{nothing_left, kept_more}
 use Rattle.svn_disk_audit.proofs.keeping.keep_texts.Goals as goal
 
@@ -14,7 +14,7 @@ loop-path-init g c =
       done = [];
       all = c.into_iter-path-iterator.ensures.into_iter_gives.0;
       kept = subst (λ (l : List (Path × BaseNode)). AreKeptAs c.args.texts store [] l) (sym c.new-kept.ensures.items) tt;
-      names = c.in_ok-keeper.ensures.names store;
+      read = c.in_ok-keeper.ensures.read store;
       texts = c.in_ok-keeper.ensures.texts;
       same = refl;
     }
@@ -22,7 +22,7 @@ loop-path-init g c =
 pub keep_node-requires : goal.keep_node-requires
 keep_node-requires g c =
     let inv = c.loop-path.invariant in
-    subst (λ (s : Store). All (λ v. HasText s v.items) c.loop-path.keeper.names.keys) (sym inv.same) inv.names
+    subst (λ (s : Store). HasRead s c.loop-path.keeper) (sym inv.same) inv.read
 
 pub loop-path-preserved : goal.loop-path-preserved
 loop-path-preserved g c =
@@ -36,7 +36,7 @@ loop-path-preserved g c =
       kept = kept_more c.args.texts c.loop-path.keeper.reader.texts store (g.E.Examiner.text_at c.loop-path.examiner) inv.done c.loop-path.kept.items
           c.push.new.self.items c.in-Some.path c.in-Some.node c.in_ok-node.node inv.texts inv.same c.in_ok-push.ensures.items inv.kept
           c.in_ok-node.ensures.node;
-      names = subst (λ (s : Store). All (λ v. HasText s v.items) c.keep_node.new.self.names.keys) inv.same c.in_ok-node.ensures.names;
+      read = subst (λ (s : Store). HasRead s c.keep_node.new.self) inv.same c.in_ok-node.ensures.read;
       texts = c.keep_node.ensures.texts ∙ inv.texts;
       same = c.keep_node.ensures.same ∙ inv.same;
     }

@@ -1,19 +1,16 @@
-use Rattle.std.proofs.Common.{◌≡◌, ℕ, [], ◌++◌, List, take, refl, ◌∙◌, arith, cond, Bool, true, false}
+use Rattle.std.proofs.Common.{◌≡◌, ℕ, [], ◌++◌, List, take, refl, ◌∙◌, arith}
 use Rattle.std.proofs.KnownBytes.{Consumes-nil}
 use Rattle.std.proofs.lemmas.Bool.{false≢true}
-use Rattle.svn_disk_audit.proofs.KeptTexts.{read_more, read_none, read_all, bytes_more, not_empty}
+use Rattle.svn_disk_audit.proofs.KeptTexts.{read_more, read_none, read_all, not_empty}
 use Rattle.svn_disk_audit.proofs.pristine.read_summed.Goals as goal
-
-none_kept : (keeps : Bool) (bytes : List ℕ) → bytes ≡ [] → bytes ≡ cond keeps [] []
-none_kept true bytes e = e
-none_kept false bytes e = e
 
 pub pieces-init : goal.pieces-init
 pieces-init g c = record {
   front = [];
   taken = Consumes-nil (g.R.Read.remaining c.args.input.now);
   summed = c.new-sum.ensures;
-  bytes = none_kept c.args.keeps c.new-bytes.result.items c.new-bytes.ensures.items;
+  held = c.new-held.ensures.nothing;
+  texts = c.new-held.ensures.texts;
   empty = (λ _. refl, λ _. refl);
 }
 
@@ -24,7 +21,7 @@ returns-in-Ok-eq0-clause-text g c =
       read_all (g.R.Read.remaining c.args.input.now) (g.R.Read.remaining c.pieces.input) (g.R.Read.remaining c.read.new.self) c.read.result
           c.in-Ok-eq0.field-0 inv.front c.read.new.buf inv.taken c.read.ensures.bytes c.in-Ok-eq0.is c.in-Ok-eq0.field-0-test (omega (arith, c.requires, c.pieces.auto.piece, c.read.auto.buf)),
       c.finalize.ensures inv.front inv.summed,
-      inv.bytes,
+      inv.held,
       inv.empty,
     )
 
@@ -37,7 +34,8 @@ pieces-preserved-in-Ok g c =
       taken = read_more (g.R.Read.remaining c.args.input.now) (g.R.Read.remaining c.pieces.input) (g.R.Read.remaining c.read.new.self) c.read.result
           c.in-Ok.count inv.front c.read.new.buf more inv.taken c.read.ensures.bytes c.in-Ok.is refl;
       summed = c.update.ensures inv.front inv.summed;
-      bytes = bytes_more c.args.keeps inv.front more c.pieces.bytes.items c.keep.new.bytes.items inv.bytes c.in_ok-keep-in-Ok.ensures.kept;
+      held = c.in_ok-add-in-Ok.ensures.more inv.front inv.held;
+      texts = c.add.ensures.texts ∙ inv.texts;
       empty = (
         λ said. absurd (false≢true said),
         λ none. absurd (not_empty inv.front more (λ zero. c.in-Ok.count-test.1 (c.in-Ok.ensures.bound.1 ∙ zero)) none),
@@ -52,6 +50,7 @@ pieces-preserved g c =
       taken = read_none (g.R.Read.remaining c.args.input.now) (g.R.Read.remaining c.pieces.input) (g.R.Read.remaining c.read.new.self) c.read.result
           _ inv.front c.read.new.buf inv.taken c.read.ensures.bytes c.in-Err.is;
       summed = inv.summed;
-      bytes = inv.bytes;
+      held = inv.held;
+      texts = inv.texts;
       empty = inv.empty;
     }

@@ -6,7 +6,7 @@ use Rattle.svn_dump.specs.Readers.{left_in}
 use Rattle.svn_lists.proofs.Results.{IfErr_returned}
 use Rattle.svn_answers.specs.declared.loaded.DumpRefusal.{DumpRefusal}
 use Rattle.svn_answers.specs.Loadings.{IsAtFront, IsDumpRefusal, in_front}
-use Rattle.svn_answers.proofs.Loadings.{loaded_by, begun_fresh, later_by, memory_in_front, refusal_by}
+use Rattle.svn_answers.proofs.Loadings.{loaded_by, begun_fresh, memory_in_front, refusal_by}
 use Rattle.svn_answers.proofs.loaded.Loaded.load.Goals as goal
 
 pub returns-clause-loaded : goal.returns-clause-loaded
@@ -29,10 +29,8 @@ returns-in-Err-clause-refused g c =
     let input = g.R.Read.remaining c.args.input in
     let begun = c.in_ok-loader.loader in
     let new = c.load_all_with.new.self in
-    refusal_by c.args.limits c.args.texts input new c.of.result c.in-Err._fault c.in-Err.ensures.refused
-    (later_by remaining c.args.limits c.args.texts begun input c.in-Err._fault new.transaction.history c.in_ok-loader.ensures.ready
-    (c.in-Err.ensures.fault c.in_ok-loader.ensures.going))
-    c.of.ensures
+    refusal_by c.args.limits c.args.texts remaining input begun new c.of.result c.in-Err._fault new.transaction.history c.in-Err.ensures.refused
+    c.in_ok-loader.ensures.ready (c.in-Err.ensures.fault c.in_ok-loader.ensures.going) c.of.ensures
 
 pub returns-in_err-uuid-clause-refused : goal.returns-in_err-uuid-clause-refused
 returns-in_err-uuid-clause-refused g c =

@@ -6,17 +6,20 @@ use Rattle.svn_dump.specs.Readers.{IsUnreadable}
 use Rattle.svn_history.specs.declared.fault.LoadFault.{LoadFault}
 use Rattle.svn_history.specs.declared.fault.LoadFault.TheVariants as faults
 use Rattle.svn_history.specs.Hearing.{nothing_yet}
+use Rattle.svn_history.specs.Places.{IsShown, anywhere}
 use Rattle.svn_history.specs.Parts.{loading, LoadsAll, RefusesOne, RefusesAll, at_first}
 use Rattle.svn_history.proofs.Fronts.{kept_more, loads_front}
 use Rattle.svn_history.proofs.Hearing.{heard_before, heard_more}
-use Rattle.svn_history.proofs.Whole.{rest_at_first, rest_more, rest_done, refused_more, refuses_one_as, read_refused, loads_dump}
+use Rattle.svn_history.proofs.Places.{shown_before, one_refused_at}
+use Rattle.svn_history.proofs.Whole.{none_loaded, rest_at_first, rest_more, rest_done, loaded_more, refused_after, refuses_one_as, read_refused, loads_dump}
 use Rattle.svn_history.proofs.loader.Loader.load_all_with.Goals as goal
 
 pub revisions-init : goal.revisions-init
 revisions-init g c =
     record {
       rest = λ new rest. rest;
-      refuses = λ e h why. why;
+      so_far = none_loaded;
+      counts = λ all of. of;
       heard = nothing_yet;
       limits = refl;
       texts = refl;
@@ -34,13 +37,18 @@ returns-in_err-next_revision-clause-fault g c =
     let view = loading g.R.Read.remaining in
     let h = c.next_revision.new.self.transaction.history in
     let e = c.in_err-next_revision.field-0.0 in
+    let new = c.next_revision.new.self in
+    let seen = IsShown g.R.Read.remaining now new in
+    let shown = IsShown g.R.Read.remaining first new in
     let Q : LoadFault → Type 0 =
-    λ e. first.refused ≡ None → RefusesAll first.records.limits first.records.texts (view first) e h in
-    let why : RefusesOne first.records.limits first.records.texts (view now) e h =
-    refuses_one_as first.records.limits now.records.limits first.records.texts now.records.texts (view now) e h inv.limits inv.texts
-    (c.in_err-next_revision.ensures.fault inv.loaded) in
+    λ e. first.refused ≡ None → RefusesAll first.records.limits first.records.texts shown (view first) e h in
+    let why : RefusesOne first.records.limits first.records.texts shown (view now) e h =
+    one_refused_at first.records.limits first.records.texts seen shown
+    (shown_before g.R.Read.remaining first.records now.records new.records new.rev inv.counts inv.limits) (view now) e h
+    (refuses_one_as first.records.limits now.records.limits first.records.texts now.records.texts seen (view now) e h inv.limits inv.texts
+    (c.in_err-next_revision.ensures.fault inv.loaded)) in
     IfErr_returned (λ x. x ≡ e) Q c.from_residual.result c.from_residual.ensures
-    (λ x is. subst Q (sym is) (λ _. inv.refuses e h (at_first why)))
+    (λ x is. subst Q (sym is) (λ _. refused_after first.records.limits first.records.texts shown (view first) (view now) e h inv.so_far (at_first why)))
 
 pub returns-in_err-next_revision-clause-heard : goal.returns-in_err-next_revision-clause-heard
 returns-in_err-next_revision-clause-heard g c = λ _.
@@ -52,8 +60,10 @@ returns-in_err-next_revision-clause-heard g c = λ _.
     let e = c.in_err-next_revision.field-0.0 in
     heard_before first.records.limits first.records.texts g.L.LoadListener.hears (view first) c.args.listener.now (view now) (view new)
     c.revisions.listener e c.from_residual.result c.from_residual.ensures inv.heard
-    (refuses_one_as first.records.limits now.records.limits first.records.texts now.records.texts (view now) e new.transaction.history
-    inv.limits inv.texts (c.in_err-next_revision.ensures.fault inv.loaded))
+    (one_refused_at first.records.limits first.records.texts (IsShown g.R.Read.remaining now new) anywhere (λ rev bytes shown. tt) (view now) e
+    new.transaction.history
+    (refuses_one_as first.records.limits now.records.limits first.records.texts now.records.texts (IsShown g.R.Read.remaining now new) (view now) e
+    new.transaction.history inv.limits inv.texts (c.in_err-next_revision.ensures.fault inv.loaded)))
 
 pub returns-clause-fault : goal.returns-clause-fault
 returns-clause-fault g c = λ _.
@@ -61,8 +71,9 @@ returns-clause-fault g c = λ _.
     let now = c.revisions.self in
     let inv = c.revisions.invariant in
     let view = loading g.R.Read.remaining in
-    inv.refuses (faults.Dump dump.Read) now.transaction.history
-    (at_first (read_refused first.records.limits first.records.texts (view now)))
+    let shown = IsShown g.R.Read.remaining first now in
+    refused_after first.records.limits first.records.texts shown (view first) (view now) (faults.Dump dump.Read) now.transaction.history inv.so_far
+    (at_first (read_refused first.records.limits first.records.texts shown (view now)))
 
 pub returns-clause-heard : goal.returns-clause-heard
 returns-clause-heard g c = λ _.
@@ -70,7 +81,7 @@ returns-clause-heard g c = λ _.
     let now = c.revisions.self in
     let inv = c.revisions.invariant in
     let view = loading g.R.Read.remaining in
-    (view now, inv.heard, read_refused first.records.limits first.records.texts (view now))
+    (view now, inv.heard, read_refused first.records.limits first.records.texts anywhere (view now))
 
 pub returns-then-is_none-clause-rest : goal.returns-then-is_none-clause-rest
 returns-then-is_none-clause-rest g c =
@@ -138,8 +149,9 @@ revisions-preserved g c =
     record {
       rest = rest_more first.records.limits now.records.limits first.records.texts now.records.texts (view first) (view now) (view new)
           c.in_ok-next_revision.field-0 inv.limits inv.texts c.in_ok-next_revision.ensures.one inv.rest some;
-      refuses = refused_more first.records.limits now.records.limits first.records.texts now.records.texts (view first) (view now) (view new)
-          c.in_ok-next_revision.field-0 inv.limits inv.texts c.in_ok-next_revision.ensures.one inv.refuses some;
+      so_far = loaded_more first.records.limits now.records.limits first.records.texts now.records.texts (view first) (view now) (view new)
+          c.in_ok-next_revision.field-0 inv.limits inv.texts c.in_ok-next_revision.ensures.one inv.so_far some;
+      counts = λ all of. c.in_ok-next_revision.ensures.counted all (inv.counts all of);
       heard = heard_more first.records.limits first.records.texts g.L.LoadListener.hears (view first) c.args.listener.now now.records.limits
           now.records.texts (view now) (view new) c.revisions.listener c.loaded.new.self c.in_ok-next_revision.field-0 c.latest.result
           c.begun.result inv.limits inv.texts inv.heard c.in_ok-next_revision.ensures.one c.latest.ensures c.loaded.ensures;

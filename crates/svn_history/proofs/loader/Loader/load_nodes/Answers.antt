@@ -4,16 +4,18 @@ use Rattle.std.specs.Option.{option_or}
 use Rattle.svn_lists.proofs.Results.{IfErr_returned}
 use Rattle.svn_dump.specs.declared.fault.DumpFault.TheVariants as dump
 use Rattle.svn_dump.specs.declared.record.Record.{Record}
-use Rattle.svn_dump.specs.Readers.{left_in, IsUnreadable}
+use Rattle.svn_dump.specs.Readers.{left_in, IsUnreadable, Shows}
 use Rattle.svn_history.specs.declared.fault.LoadFault.{LoadFault}
 use Rattle.svn_history.specs.declared.fault.LoadFault.TheVariants as faults
 use Rattle.svn_history.specs.Results.{of_dump}
 use Rattle.svn_history.specs.Steps.{draft_of}
+use Rattle.svn_history.specs.Places.{IsShown, IsShownBy}
 use Rattle.svn_history.specs.Parts.{loading, RefusesNodes, RefusesRecord, Takes}
 use Rattle.svn_history.specs.declared.front.Front.{Front}
 use Rattle.svn_history.specs.Fronts.{FrontLoaded, given_uuid, uuid_in}
 use Rattle.svn_history.proofs.Causes.{no_record_fault, dump_failed}
 use Rattle.svn_history.proofs.Fronts.{front_begins, front_on, other_taken, revision_taken, front_more, front_ends}
+use Rattle.svn_history.proofs.Places.{shown_next, shown_refused, shown_same, nodes_refused_at, counts_on}
 use Rattle.svn_history.proofs.Parts.{nodes_on, at_start, end_read, fault_read, one_more, revision_read, record_refused}
 use Rattle.svn_history.proofs.loader.Loader.load_nodes.Goals as goal
 
@@ -32,6 +34,7 @@ records-init g c =
       kept = λ _. refl;
       counted = omega arith;
       grows = omega arith;
+      counts = λ all of. of;
     }
 
 pub returns-in_err-what-clause-fault : goal.returns-in_err-what-clause-fault
@@ -46,11 +49,15 @@ returns-in_err-what-clause-fault g c =
     let nodes =
     nodes_on g.R.Read.remaining first.records.limits first.records.texts first.rev (left first.records) (draft_of first.transaction)
     c.records.self.records now.records c.records.self.transaction now.transaction same c.keep_uuid.ensures.transaction inv.nodes in
-    let Q : LoadFault → Type 0 = RefusesNodes first.records.limits first.records.texts (loading g.R.Read.remaining first) in
+    let shown = IsShownBy g.R.Read.remaining first.records c.next_record.new.self now.rev in
+    let Q : LoadFault → Type 0 = RefusesNodes first.records.limits first.records.texts shown (loading g.R.Read.remaining first) in
     let why : Q (of_dump c.in_err-what.field-0.0) =
     fault_read first.records.limits now.records.limits first.records.texts now.records.texts first.records.texts first.rev first.rev
     (left first.records) (left now.records) (left c.next_record.new.self) (draft_of first.transaction) (draft_of now.transaction)
-    nodes limits texts refl refl c.in_err-what.field-0.0 c.in_err-what.ensures.bytes in
+    nodes limits texts refl refl shown c.in_err-what.field-0.0 c.in_err-what.ensures.bytes
+    (shown_refused g.R.Read.remaining first.records now.records c.next_record.new.self now.rev first.rev
+    (counts_on g.R.Read.remaining first.records c.records.self.records now.records same inv.counts) (c.keep_uuid.ensures.rev ∙ inv.rev)
+    limits c.in_err-what.field-0.0 c.in_err-what.ensures.shown) in
     IfErr_returned (λ e. e ≡ of_dump c.in_err-what.field-0.0) Q c.from_residual-in_err-what.result c.from_residual-in_err-what.ensures
     (λ e is. subst Q (sym is) why)
 
@@ -66,13 +73,24 @@ returns-in_err-rev-clause-fault g c =
     let nodes =
     nodes_on g.R.Read.remaining first.records.limits first.records.texts first.rev (left first.records) (draft_of first.transaction)
     c.records.self.records now.records c.records.self.transaction now.transaction same c.keep_uuid.ensures.transaction inv.nodes in
-    let Q : LoadFault → Type 0 = RefusesNodes first.records.limits first.records.texts (loading g.R.Read.remaining first) in
+    let read = c.next_record.new.self in
+    let taken = c.take.new.self in
+    let seen = IsShownBy g.R.Read.remaining first.records read now.rev in
+    let shown = IsShown g.R.Read.remaining first taken in
+    let Q : LoadFault → Type 0 = RefusesNodes first.records.limits first.records.texts shown (loading g.R.Read.remaining first) in
     let why : Q c.in_err-rev.field-0.0 =
+    nodes_refused_at first.records.limits first.records.texts seen shown
+    (shown_same g.R.Read.remaining first.records read taken.records now.rev taken.rev c.take.ensures.records c.take.ensures.rev)
+    (loading g.R.Read.remaining first) c.in_err-rev.field-0.0
+    (
     record_refused first.records.limits now.records.limits first.records.texts now.records.texts c.next_record.new.self.texts first.rev
     now.rev (left first.records) (left now.records) (left c.next_record.new.self) (draft_of first.transaction)
     (draft_of now.transaction) nodes limits texts (c.next_record.ensures.texts ∙ texts) (c.keep_uuid.ensures.rev ∙ inv.rev)
     (left c.next_record.new.self) (draft_of now.transaction) c.in_ok-what.field-0 c.in-Some.what c.in-Some.is refl
-    c.in_ok-what.ensures.bytes c.in_err-rev.field-0.0 c.in_err-rev.ensures.fault in
+    c.in_ok-what.ensures.bytes seen c.in_err-rev.field-0.0 c.in_err-rev.ensures.fault
+    (shown_next g.R.Read.remaining first.records now.records c.next_record.new.self now.rev first.rev
+    (counts_on g.R.Read.remaining first.records c.records.self.records now.records same inv.counts) (c.keep_uuid.ensures.rev ∙ inv.rev)
+    limits c.in_ok-what.ensures.shown)) in
     IfErr_returned (λ e. e ≡ c.in_err-rev.field-0.0) Q c.from_residual-in_err-rev.result c.from_residual-in_err-rev.ensures
     (λ e is. subst Q (sym is) why)
 
@@ -93,9 +111,14 @@ returns-in-Some-2-clause-nodes g c =
     now.rev (left first.records) (left now.records) (left c.next_record.new.self) (draft_of first.transaction)
     (draft_of now.transaction) nodes limits texts (c.next_record.ensures.texts ∙ texts) (c.keep_uuid.ensures.rev ∙ inv.rev) (left new.records)
     (draft_of new.transaction) c.in_ok-what.field-0 c.in-Some.what c.in-Some.is (ap left c.take.ensures.records)
-    c.in_ok-what.ensures.bytes new.rev c.in-Some-2.rev
+    c.in_ok-what.ensures.bytes (IsShown g.R.Read.remaining first new) new.rev c.in-Some-2.rev
     (subst (λ (n : Option ℕ). Takes c.next_record.new.self.texts now.rev c.in-Some.what (draft_of now.transaction)
     (draft_of new.transaction) n) c.in-Some-2.is c.in_ok-rev.ensures.takes)
+    (shown_next g.R.Read.remaining first.records now.records new.records new.rev first.rev
+    (counts_on g.R.Read.remaining first.records c.records.self.records now.records same inv.counts)
+    (c.take.ensures.rev ∙ (c.keep_uuid.ensures.rev ∙ inv.rev)) limits
+    (subst (λ r. Shows now.records.limits now.records.source.taken (left now.records) r.begun r.block.items) (sym c.take.ensures.records)
+    c.in_ok-what.ensures.shown))
 
 pub returns-in_default-clause-nodes : goal.returns-in_default-clause-nodes
 returns-in_default-clause-nodes g c =
@@ -111,7 +134,11 @@ returns-in_default-clause-nodes g c =
     c.records.self.records now.records c.records.self.transaction now.transaction same c.keep_uuid.ensures.transaction inv.nodes in
     end_read first.records.limits now.records.limits first.records.texts now.records.texts first.records.texts first.rev now.rev
     (left first.records) (left now.records) (left c.next_record.new.self) (draft_of first.transaction) (draft_of now.transaction)
-    nodes limits texts refl (c.keep_uuid.ensures.rev ∙ inv.rev) c.in_ok-what.field-0 c.in_default.is c.in_ok-what.ensures.bytes
+    nodes limits texts refl (c.keep_uuid.ensures.rev ∙ inv.rev) (IsShownBy g.R.Read.remaining first.records c.next_record.new.self now.rev)
+    c.in_ok-what.field-0 c.in_default.is c.in_ok-what.ensures.bytes
+    (shown_next g.R.Read.remaining first.records now.records c.next_record.new.self now.rev first.rev
+    (counts_on g.R.Read.remaining first.records c.records.self.records now.records same inv.counts) (c.keep_uuid.ensures.rev ∙ inv.rev)
+    limits c.in_ok-what.ensures.shown)
 
 pub returns-in_default-clause-front : goal.returns-in_default-clause-front
 returns-in_default-clause-front g c = λ none unknown.
@@ -224,4 +251,21 @@ records-preserved g c =
       kept = λ known. c.take.ensures.front ∙ (c.keep_uuid.ensures.kept (subst IsSome (sym inv.first_is) known) ∙ inv.kept known);
       counted = omega (arith, grown.1, taken, before, inv.counted);
       grows = omega (arith, grown.0, taken, before, inv.grows);
+      counts = counts_on g.R.Read.remaining first.records c.next_record.new.self new.records c.take.ensures.records
+          (λ all of. c.next_record.ensures.counted all
+          (counts_on g.R.Read.remaining first.records c.records.self.records now.records same inv.counts all of));
     }
+
+pub returns-in_default-clause-counted : goal.returns-in_default-clause-counted
+returns-in_default-clause-counted g c = λ all of.
+    c.next_record.ensures.counted all
+    (counts_on g.R.Read.remaining c.args.self.now.records c.records.self.records c.keep_uuid.new.self.records c.keep_uuid.ensures.records
+    c.records.invariant.counts all of)
+
+pub returns-in-Some-2-clause-counted : goal.returns-in-Some-2-clause-counted
+returns-in-Some-2-clause-counted g c =
+    let first = c.args.self.now in
+    counts_on g.R.Read.remaining first.records c.next_record.new.self c.take.new.self.records c.take.ensures.records
+    (λ all of. c.next_record.ensures.counted all
+    (counts_on g.R.Read.remaining first.records c.records.self.records c.keep_uuid.new.self.records c.keep_uuid.ensures.records
+    c.records.invariant.counts all of))

@@ -1,5 +1,6 @@
 use Rattle.std.proofs.Common.{◌≡◌, ◌≤◌, None}
 use Rattle.std.specs.Prelude.{IsSome}
+use Rattle.svn_dump.specs.Counts.{Counts}
 use Rattle.svn_dump.specs.Readers.{left_in}
 use Rattle.svn_history.specs.Steps.{draft_of}
 use Rattle.svn_history.specs.Fronts.{given_uuid}
@@ -21,5 +22,7 @@ invariant-records g l = let first = l.fn.self in record {
   first_is : l.self.front.first ≡ first.front.first;
   kept : IsSome first.front.first → l.self.front ≡ first.front;
   counted : l.counter ≤ l.self.records.source.taken;
+  counts : Counts first.records.source.taken (left_in g.R.Read.remaining first.records) l.self.records.source.taken
+      (left_in g.R.Read.remaining l.self.records);
   grows : first.records.source.taken ≤ l.self.records.source.taken;
 }
