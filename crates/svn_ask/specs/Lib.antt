@@ -3,3 +3,8 @@ pub mod Questions
 pub mod Tuples
 pub mod Answers
 pub mod Openings
+pub mod Windows
+pub mod Asking
+pub mod Courses
+pub mod Talks
+pub mod Laws

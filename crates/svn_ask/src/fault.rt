@@ -64,6 +64,12 @@ pub enum Reason {
     /// An answer that nobody asked for.
     #[error("an answer to no question")]
     Unasked,
+    /// The bytes end within an item.
+    #[error("the answers end within an item")]
+    HalfItem,
+    /// The bytes end before all questions are answered.
+    #[error("the answers end before all questions are answered")]
+    Ended,
 }
 
 /// Why a server wasn't heard.

@@ -18,6 +18,8 @@ pub mod ItemForms
 pub mod Pieces
 -- items of a stream that comes in pieces
 pub mod StreamLemmas
+-- the items of a stream that comes in pieces, one after the other; also for crates that hold a stream
+pub mod StreamItems
 -- sessions
 pub mod SessionLemmas
 -- URLs, read as they were written

@@ -175,7 +175,7 @@ cases_of now then more (inl h) = inl h
 cases_of (Ok x) then more (inr h) = inr (inr (x.0, x.1, refl, h))
 cases_of (Err s) then more (inr h) = inr (inl (s, refl, h))
 
-front_more : (front : List Token) (more : List ℕ) (read : Result (List Token × List ℕ) Stop)
+pub front_more : (front : List Token) (more : List ℕ) (read : Result (List Token × List ℕ) Stop)
     → with_front front (with_more more read) ≡ with_more more (with_front front read)
 front_more front more (Ok x) = refl
 front_more front more (Err e) = refl
@@ -196,7 +196,7 @@ token_first limits room level bytes more t rest (Ok l) e f n further = by_test (
     by_test false z (inl k) = inl (rw (e, n, z, k) refl)
     by_test false z (inr k) = inr (rw (e, f, n, z, k) (front_more (t ∷ []) more (tokens_at limits room l rest)))
 
-tokens_settled : (limits : Limits) (room level : ℕ) (bytes more : List ℕ)
+pub tokens_settled : (limits : Limits) (room level : ℕ) (bytes more : List ℕ)
     → Settled (tokens_at limits room level bytes) (tokens_at limits room level (bytes ++ more)) more
 unfolding tokens_at
 tokens_settled limits zero level bytes more = inr refl
