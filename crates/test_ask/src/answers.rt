@@ -173,9 +173,13 @@ fn said(alloc: Global, wanted: Wanted, item: &str) -> Result<String, Fail> {
     Ok(out)
 }
 
+fn rows() -> &'static [(Wanted, &'static str, &'static str)] {
+    &ROWS
+}
+
 #[test]
 fn answers_are_read(rt: HostRuntime) -> Result<(), Fail> {
-    for (wanted, item, text) in &ROWS {
+    for (wanted, item, text) in rows() {
         let said = said(rt.alloc(), *wanted, item)?;
         assert_eq!(rt; said.as_str(), *text);
     }

@@ -4,16 +4,16 @@ use std::alloc::Global;
 use std::test::Fail;
 use svn_ask::Wanted;
 
-const QUESTIONS: [Row; 2] = [
+static QUESTIONS: [Row; 2] = [
     (Wanted::File, "trunk/iota", 3),
     (Wanted::Kind, "trunk/A", 3),
 ];
 
 // The whole opening, and that with the first answer.
-const OPENED: &str =
+static OPENED: &str =
     "( success ( 2 2 ( ) ( edit-pipeline ) ) ) ( success ( ( ANONYMOUS EXTERNAL ) 5:realm ) ) ( success ( ) ) ( success ( 36:0005ada1-b295-4e3e-8db6-cfe8b4526167 18:svn://h/repo/trunk ( mergeinfo ) ) ) ";
 
-const ANSWERED: &str =
+static ANSWERED: &str =
     "( success ( ( ) 0: ) ) ( success ( ( 32:738bb2e514e4c8141281efa630650db0 ) 3 ( ( 5:color 3:red ) ) ) ) ";
 
 // What the server sends before the rest.
@@ -239,6 +239,10 @@ fn heard(count: usize) -> &'static str {
     }
 }
 
+fn questions() -> &'static [Row] {
+    &QUESTIONS
+}
+
 fn cases() -> &'static [Case] {
     &CASES
 }
@@ -247,7 +251,7 @@ fn cases() -> &'static [Case] {
 fn other_answers_are_refused(rt: HostRuntime) -> Result<(), Fail> {
     for (after, rest, count, fault) in cases() {
         let pieces = pieces_of(*after, *rest);
-        let talked = talk(rt.alloc(), &QUESTIONS, &pieces, false)?;
+        let talked = talk(rt.alloc(), questions(), &pieces, false)?;
         assert_eq!(rt; talked.heard.as_str(), heard(*count));
         assert_eq!(rt; talked.fault.as_str(), *fault);
     }
@@ -276,7 +280,7 @@ fn endless_items_are_refused(rt: HostRuntime) -> Result<(), Fail> {
         ),
     ] {
         let pieces = repeated(rt.alloc(), piece, times)?;
-        let talked = talk(rt.alloc(), &QUESTIONS, &pieces, false)?;
+        let talked = talk(rt.alloc(), questions(), &pieces, false)?;
         assert_eq!(rt; talked.fault.as_str(), fault);
     }
     Ok(())

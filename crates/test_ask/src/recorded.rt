@@ -1,6 +1,6 @@
 //! Connections: what a client writes and hears, as the server's bytes come.
-use crate::talks::{Answers, LIMITS, Talked, hear, paths_of, questions_of, speaker, talk};
-use std::alloc::Global;
+use crate::talks::{Answers, LIMITS, Row, Talked, hear, paths_of, questions_of, speaker, talk};
+use std::alloc::{AllocError, Global};
 use std::str;
 use std::test::Fail;
 use svn_ask::{Asking, Questions, Wanted};
@@ -15,7 +15,7 @@ static REST: &str =
 static CLIENT: &str =
     "( 2 ( edit-pipeline ) 18:svn://h/repo/trunk 3:yum ( ) ) ( EXTERNAL ( 0: ) ) ( reparent ( 12:svn://h/repo ) ) ( get-dir ( 5:trunk ( 3 ) true true ( kind ) ) ) ( get-file ( 10:trunk/iota ( 3 ) true false ) ) ( get-file ( 9:trunk/a b ( 3 ) true false ) ) ( get-file ( 9:trunk/a b ( 2 ) true false ) ) ( check-path ( 9:trunk/A/B ( 3 ) ) ) ( get-dir ( 10:trunk/iota ( 3 ) true true ( kind ) ) ) ( get-file ( 7:trunk/A ( 3 ) true false ) ) ( get-dir ( 9:trunk/A/B ( 2 ) true true ( kind ) ) ) ( check-path ( 10:trunk/iota ( 9 ) ) ) ( get-file ( 12:trunk/iota/x ( 3 ) true false ) ) ( check-path ( 4:nope ( 3 ) ) ) ( get-dir ( 7:trunk/A ( 3 ) true true ( kind ) ) ) ";
 
-const QUESTIONS: [(Wanted, &str, u64); 12] = [
+static QUESTIONS: [Row; 12] = [
     (Wanted::Directory, "trunk", 3),
     (Wanted::File, "trunk/iota", 3),
     (Wanted::File, "trunk/a b", 3),
@@ -46,40 +46,98 @@ nope@3: nothing
 trunk/A@3: directory note=x y,: B/
 ";
 
-fn push_pieces(
-    pieces: &mut Vec<&'static [u8]>,
-    bytes: &'static [u8],
+fn front() -> &'static str {
+    FRONT
+}
+
+fn rest() -> &'static str {
+    REST
+}
+
+fn client() -> &'static str {
+    CLIENT
+}
+
+fn heard() -> &'static str {
+    HEARD
+}
+
+fn heard_of_rest() -> &'static str {
+    HEARD_OF_REST
+}
+
+fn questions() -> &'static [Row] {
+    &QUESTIONS
+}
+
+fn push_pieces<'a>(
+    pieces: &mut Vec<&'a [u8]>,
+    bytes: &'a [u8],
     piece: usize,
-) -> Result<(), Fail> {
+) -> Result<(), AllocError> {
+    if piece == 0 {
+        return Ok(());
+    }
     for part in bytes.chunks(piece) {
         pieces.push(part)?;
     }
     Ok(())
 }
 
+fn in_pieces<'a>(
+    alloc: Global,
+    parts: &'a [&'a [u8]],
+    piece: usize,
+) -> Result<Vec<&'a [u8]>, AllocError> {
+    let mut pieces = Vec::new(alloc);
+    for bytes in parts {
+        push_pieces(&mut pieces, *bytes, piece)?;
+    }
+    Ok(pieces)
+}
+
+// Whether the text is what is heard in all.
+fn is_heard(text: &str) -> bool {
+    match text.strip_prefix(heard()) {
+        Some(more) => more == heard_of_rest(),
+        None => false,
+    }
+}
+
 #[test]
 fn questions_are_asked_and_answered(rt: HostRuntime) -> Result<(), Fail> {
-    for (piece, one_by_one) in [(1, false), (1, true), (7, true), (1000000, false)] {
-        let mut pieces = Vec::new(rt.alloc());
-        push_pieces(&mut pieces, FRONT.as_bytes(), piece)?;
-        push_pieces(&mut pieces, REST.as_bytes(), piece)?;
-        let talked = talk(rt.alloc(), &QUESTIONS, &pieces, one_by_one)?;
-        assert_eq!(rt; str::from_utf8(&talked.written)?, CLIENT);
-        let rest = talked
-            .heard
-            .as_str()
-            .strip_prefix(HEARD)
-            .ok_or("the first answers")?;
-        assert_eq!(rt; rest, HEARD_OF_REST);
+    for piece in [1, 7, 1000000] {
+        let parts = [front().as_bytes(), rest().as_bytes()];
+        let pieces = in_pieces(rt.alloc(), &parts, piece)?;
+        let talked = talk(rt.alloc(), questions(), &pieces, piece == 7)?;
+        assert_eq!(rt; str::from_utf8(&talked.written)?, client());
+        assert!(rt; is_heard(talked.heard.as_str()));
         assert_eq!(rt; talked.fault.as_str(), "");
     }
     Ok(())
 }
 
+// Those up to the third answer.
+fn first_rows() -> &'static [Row] {
+    let rows = questions();
+    if rows.len() < 3 {
+        return rows;
+    }
+    let (first, _more) = rows.split_at(3);
+    first
+}
+
+fn split(bytes: &[u8], at: usize) -> (&[u8], &[u8]) {
+    if at > bytes.len() {
+        return (bytes, b"");
+    }
+    bytes.split_at(at)
+}
+
 // Cut off there: what is heard then, why it may not end, and what comes of the rest.
 fn cut_at(alloc: Global, at: usize) -> Result<(Talked, Talked), Fail> {
-    let (front, rest) = FRONT.as_bytes().split_at(at);
-    let rows = &QUESTIONS[..3];
+    let (front, rest) = split(front().as_bytes(), at);
+    let rows = first_rows();
     let paths = paths_of(alloc, rows)?;
     let list = questions_of(alloc, rows, &paths)?;
     let mut questions = Questions::new(&list, false);
@@ -92,11 +150,11 @@ fn cut_at(alloc: Global, at: usize) -> Result<(Talked, Talked), Fail> {
 
 #[test]
 fn it_may_be_cut_anywhere(rt: HostRuntime) -> Result<(), Fail> {
-    for at in 0..FRONT.len() {
+    for at in 0..front().len() {
         let (first, more) = cut_at(rt.alloc(), at)?;
-        assert!(rt; HEARD.starts_with(first.heard.as_str()));
+        assert!(rt; heard().starts_with(first.heard.as_str()));
         assert!(rt; first.fault.as_str().starts_with("the answers end "));
-        assert_eq!(rt; more.heard.as_str(), HEARD);
+        assert_eq!(rt; more.heard.as_str(), heard());
         assert_eq!(rt; more.fault.as_str(), "");
     }
     Ok(())

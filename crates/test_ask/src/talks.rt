@@ -75,18 +75,24 @@ pub fn paths_of(alloc: Global, rows: &[Row]) -> Result<Vec<RelPath>, Fail> {
     Ok(paths)
 }
 
+// What is asked of a path, in which revision.
+fn asked_at(rows: &[Row], at: usize) -> (Wanted, u64) {
+    match rows.get(at) {
+        Some((wanted, _path, rev)) => (*wanted, *rev),
+        None => (Wanted::Kind, 0),
+    }
+}
+
 pub fn questions_of<'a>(
     alloc: Global,
     rows: &[Row],
     paths: &'a [RelPath],
-) -> Result<Vec<Question<'a>>, Fail> {
+) -> Result<Vec<Question<'a>>, AllocError> {
     let mut questions = Vec::new(alloc);
-    for (row, path) in rows.iter().zip(paths) {
-        questions.push(Question {
-            wanted: row.0,
-            rev: Rev(row.2),
-            path,
-        })?;
+    for path in paths {
+        let (wanted, rev) = asked_at(rows, questions.len());
+        let rev = Rev(rev);
+        questions.extend_from_slice(&[Question { wanted, rev, path }])?;
     }
     Ok(questions)
 }

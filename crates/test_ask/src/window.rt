@@ -12,6 +12,18 @@ static FOUND: &str =
 
 static ANSWER: &str = "( success ( ( ) 0: ) ) ( success ( none ) ) ";
 
+fn greeting() -> &'static [u8] {
+    GREETING.as_bytes()
+}
+
+fn found() -> &'static [u8] {
+    FOUND.as_bytes()
+}
+
+fn answer() -> &'static [u8] {
+    ANSWER.as_bytes()
+}
+
 // So many questions of 40 bytes each.
 fn many(alloc: Global, count: usize) -> Result<Vec<Row>, Fail> {
     let mut rows = Vec::new(alloc);
@@ -31,16 +43,17 @@ fn most_open(
     let mut asking = Asking::new(alloc, LIMITS, speaker(alloc)?);
     let mut out = Vec::new(alloc);
     let mut answers = Answers::new(alloc);
-    asking.hear(GREETING.as_bytes(), &mut questions, &mut out, &mut answers)?;
+    asking.hear(greeting(), &mut questions, &mut out, &mut answers)?;
     let first = out.len();
-    asking.hear(FOUND.as_bytes(), &mut questions, &mut out, &mut answers)?;
+    asking.hear(found(), &mut questions, &mut out, &mut answers)?;
     let mut answered = 0;
     let mut most = 0;
     for question in list {
         let open = out.len().saturating_sub(first).saturating_sub(answered);
         most = most.max(open);
-        asking.hear(ANSWER.as_bytes(), &mut questions, &mut out, &mut answers)?;
-        answered += question_len(question.wanted, question.rev, question.path);
+        asking.hear(answer(), &mut questions, &mut out, &mut answers)?;
+        let len = question_len(question.wanted, question.rev, question.path);
+        answered = answered.saturating_add(len);
     }
     asking.end(&questions)?;
     Ok((most, questions.answered()))
@@ -74,24 +87,26 @@ fn two_lists(
     let mut out = Vec::new(alloc);
     let mut questions = Questions::new(first, false);
     asking.ask(&mut questions, &mut out)?;
-    asking.hear(GREETING.as_bytes(), &mut questions, &mut out, &mut answers)?;
-    asking.hear(FOUND.as_bytes(), &mut questions, &mut out, &mut answers)?;
-    asking.hear(ANSWER.as_bytes(), &mut questions, &mut out, &mut answers)?;
+    asking.hear(greeting(), &mut questions, &mut out, &mut answers)?;
+    asking.hear(found(), &mut questions, &mut out, &mut answers)?;
+    asking.hear(answer(), &mut questions, &mut out, &mut answers)?;
     let mut written = Vec::new(alloc);
     let mut further = Questions::new(second, false);
     asking.ask(&mut further, &mut written)?;
-    asking.hear(ANSWER.as_bytes(), &mut further, &mut written, &mut answers)?;
+    asking.hear(answer(), &mut further, &mut written, &mut answers)?;
     asking.end(&further)?;
     Ok((written, questions.is_done() && further.is_done()))
 }
 
 #[test]
 fn lists_follow_one_another(rt: HostRuntime) -> Result<(), Fail> {
-    let rows = [(Wanted::Kind, "trunk", 3), (Wanted::Kind, "tags", 4)];
+    let rows = [(Wanted::Kind, "trunk", 3)];
     let paths = paths_of(rt.alloc(), &rows)?;
-    let list = questions_of(rt.alloc(), &rows, &paths)?;
-    let (first, second) = list.split_at(1);
-    let (written, done) = two_lists(rt.alloc(), first, second)?;
+    let first = questions_of(rt.alloc(), &rows, &paths)?;
+    let others = [(Wanted::Kind, "tags", 4)];
+    let further_paths = paths_of(rt.alloc(), &others)?;
+    let second = questions_of(rt.alloc(), &others, &further_paths)?;
+    let (written, done) = two_lists(rt.alloc(), &first, &second)?;
     assert_eq!(rt;
         str::from_utf8(&written)?,
         "( check-path ( 4:tags ( 4 ) ) ) "
