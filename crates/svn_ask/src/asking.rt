@@ -52,7 +52,7 @@ impl Asking {
         is_opened(self.talk.step)
     }
 
-    /// Begins a list of questions on a connection that is open, where no question of another list is: puts what is to be written now at the end of
+    /// Begins a list of questions on a connection that is open, where no question of another list is: puts what must be written now at the end of
     /// `out`. Before the connection is open nothing is written, and `hear` does it once the opening is over.
     pub fn ask(&self, questions: &mut Questions<'_>, out: &mut Vec<u8>) -> Result<(), AllocError>
         ensures asked { OnOk result (questions.new ≡ (asked_at self.now.step questions.old).0) }
@@ -61,7 +61,7 @@ impl Asking {
         ask_at(self.talk.step, questions, out)
     }
 
-    /// Takes bytes of the server, in any pieces: passes each answer that is whole on with its question, and puts what is to be written now at the end
+    /// Takes bytes of the server, in any pieces: passes each answer that is whole on with its question, and puts what must be written now at the end
     /// of `out`. All questions that are open must be of this list.
     ///
     /// What is written and heard is what comes of the items that these bytes complete. A refusal is the first from left to right; the answers before

@@ -59,7 +59,7 @@ fn ended() -> LiveFault {
 }
 
 impl<R: Read, W: Write> Ends<R, W> {
-    // Writes what is to be sent now.
+    // Writes what must be sent now.
     fn send(&mut self) -> Result<(), LiveFault>
         ensures { self.new.input ≡ self.old.input }
     {
@@ -90,7 +90,7 @@ impl<R: Read, W: Write> Ends<R, W> {
         Err(ended())
     }
 
-    // Takes more bytes of the server, and writes what is to be sent then.
+    // Takes more bytes of the server, and writes what must be sent then.
     fn hear_more<H: Hearer>(
         &mut self,
         asking: &mut Asking,
