@@ -148,7 +148,7 @@ refused() {
 }
 refused 'no copy' "svnaudit: repo: no working copy" "$SVNAUDIT" check dump repo
 refused 'no folder' "svnaudit: nowhere: No such file or directory (os error 2)" "$SVNAUDIT" check dump nowhere
-refused 'another repository' "svnaudit: lost_row: the working copy is of repository $(svnlook uuid lost_row.repo), the dump is of $(svnlook uuid repo)" "$SVNAUDIT" check dump lost_row
+refused 'another repository' "svnaudit: lost_row: the working copy is of repository $(svnlook uuid lost_row.repo), not of $(svnlook uuid repo)" "$SVNAUDIT" check dump lost_row
 refused 'an untrue copy' "svnaudit: lost_row: untrue: b: r1 has y at b, which the copy lacks (see --allow-untrue)" "$SVNAUDIT" report lost_row.dump lost_row
 checkout odd trunk 4
 text=$(cd odd/.svn/pristine && find . -size +0 -name '*.svn-base' | LC_ALL=C sort | head -1); sum=$(basename "$text" .svn-base); text=odd/.svn/pristine/$text

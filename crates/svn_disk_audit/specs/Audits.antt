@@ -3,6 +3,7 @@
 --     IsAudit texts store h database below copy untrue      the copy is that of the database's bytes, its texts pristine, and these paths of it are untrue of h
 --     IsVerdict texts limits dump store database below untrue      no path is untrue exactly where that copy is true of the dump's history
 --     IsAccepted accepts database below      this holds of what the bytes of the database stand for
+--     IsFrom origin notes base      it is of this repository, and so much was passed over
 --     IsAuditFault texts store database below fault      why the copy isn't audited, whose base tree was read unless the database is refused
 use Rattle.std.specs.Prelude.{◌≡◌, ℕ, List, [], Some, Ok}
 use Rattle.svn_types.specs.Names.{Path}
@@ -15,6 +16,8 @@ use Rattle.svn_history.specs.Loading.{LoadsDump}
 use Rattle.svn_model.specs.declared.wc_fault.WcFault.{WcFault}
 use Rattle.svn_model.specs.Refusals.{nodes_fault}
 use Rattle.svn_wc.specs.Building.{Refuses}
+use Rattle.svn_wcdb.specs.declared.base_tree.Origin.{Origin}
+use Rattle.svn_wcdb.specs.declared.notes.Notes.{Notes}
 use Rattle.svn_wcdb.specs.Bases.{Base, base_tree_at}
 use Rattle.svn_wcdb.specs.Reading.{FailsAt}
 use Rattle.svn_audit.specs.declared.reason.Untrue.{Untrue}
@@ -61,6 +64,9 @@ pub record IsVerdict (texts : Texts) (limits : Limits) (dump : List ℕ) (store 
 
 abbrev pub IsAccepted : (Base → Type 0) → List ℕ → Path → Type 0
 IsAccepted accepts database below = (base : Base) × (base_tree_at below database ≡ Ok base) × accepts base
+
+abbrev pub IsFrom : Origin → Notes → Base → Type 0
+IsFrom origin notes base = (base.origin ≡ origin) × (base.notes ≡ notes)
 
 -- this holds of the nodes of the database at the path and below
 abbrev pub HasNodes : List ℕ → Path → (List (Path × BaseNode) → Type 0) → Type 0

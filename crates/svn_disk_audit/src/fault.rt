@@ -1,10 +1,11 @@
 //! Why a working copy isn't audited.
 ghost use Rattle.std.specs.Prelude.{◌≡◌, ◌⊎◌};
 ghost use Rattle.svn_disk_audit.specs.declared.fault.AuditFault.TheVariants.{Database, Copy, Memory};
+ghost use Rattle.svn_disk_audit.specs.FaultTexts.{pristine_text, pristine_refusal_text, audit_text};
 
 use std::alloc::{AllocError, AllocFailed};
 use std::{fmt, io};
-use svn_editor::PathWord;
+use svn_editor::{PathWord, Word};
 use svn_model::WcFault;
 use svn_types::{RelPath, Text};
 use svn_wcdb::{Refusal, WcdbFault};
@@ -85,6 +86,8 @@ impl<F, T: Drop> From<AllocFailed<T>> for AuditFault<F> {
 }
 
 impl fmt::Display for PristineFault {
+    ghost output = { pristine_text ⟦<io::Error as fmt::Display>⟧.output };
+
     fn fmt<W: fmt::Write>(&self, f: &mut fmt::Formatter<W>) -> fmt::Result {
         match self {
             PristineFault::WrongSha1 => f.write_str("the file has another SHA-1 checksum"),
@@ -95,9 +98,10 @@ impl fmt::Display for PristineFault {
 }
 
 impl fmt::Display for PristineRefusal {
+    ghost output = { pristine_refusal_text ⟦<PristineFault as fmt::Display>⟧.output };
+
     fn fmt<W: fmt::Write>(&self, f: &mut fmt::Formatter<W>) -> fmt::Result {
-        let path = PathWord(&self.path);
-        let name = str::from_utf8(self.stand_in.as_slice()).unwrap_or("?");
+        let (path, name) = (PathWord(&self.path), Word(self.stand_in.as_slice()));
         let fault = self.fault;
         write!(f, "{path}: pristine text {name}: {fault}")
     }
@@ -105,6 +109,8 @@ impl fmt::Display for PristineRefusal {
 
 /// Why, after the path of the node or the file that is at fault, where one is.
 impl<F: fmt::Display> fmt::Display for AuditFault<F> {
+    ghost output = { audit_text ⟦<Refusal as fmt::Display>⟧.output F.output ⟦<PristineRefusal as fmt::Display>⟧.output ⟦<WcFault as fmt::Display>⟧.output };
+
     fn fmt<W: fmt::Write>(&self, f: &mut fmt::Formatter<W>) -> fmt::Result {
         match self {
             AuditFault::Database(refusal) => write!(f, "{refusal}"),

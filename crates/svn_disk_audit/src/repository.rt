@@ -1,7 +1,8 @@
-//! Whether a working copy is of a dump's repository.
-ghost use Rattle.std.specs.Prelude.{◌≡◌, IfErr, OnOk};
+//! Whether a working copy is of the repository that it is compared with.
+ghost use Rattle.std.specs.Prelude.{◌≡◌, Some, IfErr, OnOk};
 ghost use Rattle.std.specs.Option.{option_copied};
 ghost use Rattle.svn_wcdb.specs.Bases.{seen_base};
+ghost use Rattle.svn_disk_audit.specs.FaultTexts.{repository_text};
 ghost use Rattle.svn_disk_audit.specs.Repositories.{IsOfRepository, IsRepositoryFault};
 ghost use Rattle.svn_disk_audit.specs.declared.repository.RepositoryFault.TheVariants.{Memory};
 
@@ -11,15 +12,15 @@ use svn_editor::Word;
 use svn_types::Text;
 use svn_wcdb::BaseTree;
 
-/// Why a working copy isn't known to be of a dump's repository.
+/// Why a working copy isn't known to be of the repository that it is compared with.
 #[derive(Debug, Drop)]
 pub enum RepositoryFault {
     /// It is of another.
     Other {
         /// The UUID of the copy's repository.
         copy: Text,
-        /// That of the dump's.
-        dump: Text,
+        /// The one that it should have.
+        wanted: Text,
     },
     /// An allocation failed.
     Memory,
@@ -34,13 +35,15 @@ impl From<AllocError> for RepositoryFault {
 }
 
 impl fmt::Display for RepositoryFault {
+    ghost output = { λ f. Some (repository_text f) };
+
     fn fmt<W: fmt::Write>(&self, f: &mut fmt::Formatter<W>) -> fmt::Result {
         match self {
-            RepositoryFault::Other { copy, dump } => {
-                let (copy, dump) = (Word(copy.as_slice()), Word(dump.as_slice()));
+            RepositoryFault::Other { copy, wanted } => {
+                let (copy, wanted) = (Word(copy.as_slice()), Word(wanted.as_slice()));
                 write!(
                     f,
-                    "the working copy is of repository {copy}, the dump is of {dump}"
+                    "the working copy is of repository {copy}, not of {wanted}"
                 )
             }
             RepositoryFault::Memory => f.write_str("out of memory"),
@@ -48,7 +51,7 @@ impl fmt::Display for RepositoryFault {
     }
 }
 
-/// Refuses a working copy of another repository than that of a dump, which may have a UUID: Other exactly where the copy's differs. Memory where an
+/// Refuses a working copy of another repository than the one of a UUID, where that is known: Other exactly where the copy's differs. Memory where an
 /// allocation failed.
 pub fn compare_repository(
     alloc: Global,
@@ -61,7 +64,7 @@ pub fn compare_repository(
     match uuid {
         Some(uuid) if tree.origin.uuid.as_slice() != uuid => Err(RepositoryFault::Other {
             copy: tree.origin.uuid.clone()?,
-            dump: Text::from_slice(alloc, uuid)?,
+            wanted: Text::from_slice(alloc, uuid)?,
         }),
         _ => Ok(()),
     }
