@@ -5,8 +5,8 @@ use Rattle.std.specs.Result.{is_err}
 use Rattle.std.specs.Fmt.{◌++?◌}
 use Rattle.std.specs.Io.KnownBytes.{Appends}
 use Rattle.std.proofs.KnownBytes.{Appends-nil, Appends-trans}
+use Rattle.svn_disk_audit.specs.FaultTexts.{TextOf}
 use Rattle.svn_answers.specs.declared.fault.TellFault.{TellFault}
-use Rattle.svn_answers.specs.FaultTexts.{TextOf}
 use Rattle.svn_answers.specs.Lines.{source_text}
 use Rattle.svn_answers.specs.NoticeLines.{WritesText, fault_line, notice_line, notice_lines}
 use Rattle.svn_answers.specs.declared.notices.Notice.{Notice}

@@ -3,8 +3,8 @@
 --     IsCopyFault opens stayed compared word fault      why the copy of a word isn't audited: where that is said of its bytes, it stayed as it was
 --     answer_text word answer, verdict_of answer      what is printed of a word's answer, and its verdict
 --     notices_of word answer      what is reported of it: what was passed over of a copy, or why it is refused
---     Checks opens stayed compared words verdict text heard      each word was answered, in their order: these are all lines, all notices, and the worst of
---                                                                the verdicts
+--     Answered words answers verdict text heard      these are the answers of the words, in their order, with all lines, all notices, and the worst verdict
+--     Checks opens stayed compared words verdict text heard      each word was answered by what its copy is
 --     Tells opens stayed compared inquiry word verdict text heard      this was written of what is asked of the word's copy, with that verdict and these notices
 use Rattle.std.specs.Prelude.{◌≡◌, ℕ, List, [], ◌∷◌, ◌++◌, map, false, Option, Some, Result, Ok, Err}
 use Rattle.std.specs.Option.{option_copied}
@@ -112,14 +112,19 @@ abbrev pub notices_of : {F : Type 0} → List ℕ → Answer F → Heard F
 notices_of name (Ok found) = of_notes name found.notes
 notices_of name (Err fault) = unanswered name (faults.Copy fault)
 
-pub record Checks (F : Type 0) (opens : Opens) (stayed : Stayed) (compared : Compared) (words : List (List ℕ)) (verdict : Verdict)
-    (text : List ℕ) (heard : Heard F) : Type 0 where
-  pub answers : List (List ℕ × Answer F)
+-- words are answered in their order: these are all lines, all notices, and the worst of the verdicts
+pub record Answered (F : Type 0) (words : List (List ℕ)) (answers : List (List ℕ × Answer F)) (verdict : Verdict) (text : List ℕ) (heard : Heard F)
+    : Type 0 where
   pub in_order : map (λ a. a.0) answers ≡ words
-  pub each : AllByRecursion (λ a. IsAnswer opens stayed compared a.0 a.1) answers
   pub lines : text ≡ flat_map (λ a. answer_text a.0 a.1) answers
   pub notices : heard ≡ flat_map (λ a. notices_of a.0 a.1) answers
   pub worst_of_all : verdict ≡ worst (map (λ a. verdict_of a.1) answers)
+
+pub record Checks (F : Type 0) (opens : Opens) (stayed : Stayed) (compared : Compared) (words : List (List ℕ)) (verdict : Verdict)
+    (text : List ℕ) (heard : Heard F) : Type 0 where
+  pub answers : List (List ℕ × Answer F)
+  pub answered : Answered F words answers verdict text heard
+  pub each : AllByRecursion (λ a. IsAnswer opens stayed compared a.0 a.1) answers
 
 -- ---- what is asked of one copy
 

@@ -1,9 +1,10 @@
 -- What is printed of the faults of copies, where the faults that they hold have known texts: those come as functions, which give None where a text isn't
 -- known.
 --     examiner_text, copy_fault_text, topic_text, tell_text      of a fault
-use Rattle.std.specs.Prelude.{ℕ, List, ◌++◌, Option, Some, codes}
+use Rattle.std.specs.Prelude.{◌++◌, Some, codes}
 use Rattle.svn_model.specs.declared.drive_fault.DriveFault.{DriveFault}
 use Rattle.svn_audit.specs.Reasons.{untrue_text}
+use Rattle.svn_disk_audit.specs.FaultTexts.{TextOf}
 use Rattle.svn_disk_audit.specs.declared.fault.AuditFault.{AuditFault}
 use Rattle.svn_disk_audit.specs.declared.repository.RepositoryFault.{RepositoryFault}
 use Rattle.svn_answers.specs.declared.examination.ExaminerFault.{ExaminerFault}
@@ -14,10 +15,6 @@ use Rattle.svn_answers.specs.declared.fault.TellFault.{TellFault}
 use Rattle.svn_answers.specs.declared.fault.TellFault.TheVariants.{Copy, Untrue, Topic}
 use Rattle.svn_answers.specs.declared.topic.TopicFault.{TopicFault}
 use Rattle.svn_answers.specs.declared.topic.TopicFault.TheVariants.{Drive, Write, Memory}
-
--- the text of a value, where it is known
-abbrev pub TextOf : Type 0 → Type 0
-TextOf X = X → Option (List ℕ)
 
 abbrev pub examiner_text : {F : Type 0} → TextOf RepositoryFault → TextOf F → TextOf (ExaminerFault F)
 examiner_text of_repository of_copy (Repository fault) = of_repository fault

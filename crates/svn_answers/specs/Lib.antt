@@ -11,3 +11,5 @@ pub mod Loadings
 pub mod Shown
 pub mod Laws
 pub mod Written
+pub mod LiveUrls
+pub mod LiveAnswers

@@ -6,6 +6,7 @@
 use Rattle.std.specs.Prelude.{◌≡◌, ℕ, Bool, true, false, List, [], ◌∷◌, ◌++◌, Option, Some, option_map, IfSome, codes, if◌then◌else◌}
 use Rattle.std.specs.Fmt.{◌++?◌}
 use Rattle.std.specs.Io.KnownBytes.{Appends}
+use Rattle.svn_disk_audit.specs.FaultTexts.{TextOf}
 use Rattle.svn_disk_audit.specs.declared.fault.AuditFault.TheVariants as audits
 use Rattle.svn_disk_audit.specs.declared.repository.RepositoryFault.TheVariants as repositories
 use Rattle.svn_answers.specs.declared.examination.ExaminerFault.TheVariants.{Repository, Copy as OfCopy}
@@ -16,7 +17,6 @@ use Rattle.svn_answers.specs.declared.fault.TellFault.TheVariants.{Copy, Topic}
 use Rattle.svn_answers.specs.declared.topic.TopicFault.TheVariants.{Memory}
 use Rattle.svn_answers.specs.declared.notices.Notice.{Notice}
 use Rattle.svn_answers.specs.declared.notices.Notice.TheVariants.{PassedOver, Unanswered}
-use Rattle.svn_answers.specs.FaultTexts.{TextOf}
 use Rattle.svn_answers.specs.Lines.{source_text}
 use Rattle.svn_answers.specs.Notices.{Heard}
 use Rattle.svn_answers.specs.PassedOver.{passed_over_text}

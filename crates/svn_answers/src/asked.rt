@@ -135,8 +135,12 @@ impl<C: Copies> Asked<'_, C> {
     }
 }
 
-// Writes the lines of a copy.
-fn write_checked<W: Write>(name: &str, audited: &Audited, output: &mut W) -> Result<(), AnswerFault>
+/// Writes the lines of a copy.
+pub(crate) fn write_checked<W: Write>(
+    name: &str,
+    audited: &Audited,
+    output: &mut W,
+) -> Result<(), AnswerFault>
     ensures { OnOk result (Appends (W.contents output.old) (W.contents output.new) (checked_text name.now audited.now.copy audited.now.untrue.items)) }
 {
     let checked = Checked {

@@ -44,6 +44,23 @@ pub(crate) struct Write<'a> {
     pub(crate) progress: bool,
 }
 
+/// `live TO FROM WC..`: whether these copies are true of what a server says.
+#[derive(Debug, Drop)]
+pub(crate) struct Live<'a> {
+    /// What the server reads; with `-` it is standard output.
+    pub(crate) to: Source<'a>,
+    /// What it writes.
+    pub(crate) from: Source<'a>,
+    /// The folders of the copies.
+    pub(crate) copies: Vec<&'a str>,
+    /// What the server is asked for, if that is given.
+    pub(crate) url: Option<&'a str>,
+    /// Whether one command at most is open.
+    pub(crate) one_by_one: bool,
+    /// Whether to print how far the copies are asked for.
+    pub(crate) progress: bool,
+}
+
 /// What is asked about working copies.
 #[derive(Debug, Drop)]
 pub(crate) enum Subject<'a> {
@@ -72,6 +89,7 @@ pub(crate) enum Request<'a> {
     Show(Show<'a>),
     Write(Write<'a>),
     Ask(Question<'a>),
+    Live(Live<'a>),
 }
 
 impl<'a> Request<'a> {
@@ -81,6 +99,7 @@ impl<'a> Request<'a> {
             Request::Show(show) => show.dump,
             Request::Write(write) => write.script,
             Request::Ask(question) => question.dump,
+            Request::Live(live) => live.from,
         }
     }
 }
@@ -158,6 +177,37 @@ fn check_command<'a>(alloc: Global) -> Result<Command<'a>, AllocError> {
     )
 }
 
+fn live_command<'a>(alloc: Global) -> Result<Command<'a>, AllocError> {
+    Command::new(alloc, "live")
+        .about("Say whether working copies are true of what a server says")
+        .arg(word(
+            alloc,
+            "to",
+            "TO",
+            "The named pipe that the server reads; or -, and a WC in place of FROM: the server is at standard output and input",
+        )
+        .required(true))?
+        .arg(word(alloc, "from", "FROM", "The named pipe that it writes").required(true))?
+        .arg(word(alloc, "copies", "WC", "A folder of a working copy").num_args(0..))?
+        .arg(
+            Arg::new(alloc, "url").long("url").value_name("URL").help(
+                "Ask for the repository at this URL, and not at the one of the first copy",
+            ),
+        )?
+        .arg(
+            Arg::new(alloc, "one-by-one")
+                .long("one-by-one")
+                .action(ArgAction::SetTrue)
+                .help("Wait for each answer before the next question"),
+        )?
+        .arg(
+            Arg::new(alloc, "progress")
+                .long("progress")
+                .action(ArgAction::SetTrue)
+                .help("Print on standard error what is waited for, and how many nodes are done"),
+        )
+}
+
 // The words of a question about one copy.
 fn copy_command<'a>(
     alloc: Global,
@@ -196,6 +246,7 @@ fn command<'a>(alloc: Global) -> Result<Command<'a>, AllocError> {
         .subcommand_required(true)
         .disable_help_subcommand(true)
         .subcommand(check_command(alloc)?)?
+        .subcommand(live_command(alloc)?)?
         .subcommand(copy_command(
             alloc,
             "report",
@@ -252,6 +303,27 @@ fn copies_of<'a>(alloc: Global, matches: &ArgMatches<'a>) -> Result<Vec<&'a str>
     }
 }
 
+// With `-` the word after it is a copy's.
+fn live_of<'a>(alloc: Global, matches: &ArgMatches<'a>) -> Result<Live<'a>, AllocError> {
+    let to = Source(matches.get_str("to").unwrap_or("-"));
+    let from = matches.get_str("from").unwrap_or("-");
+    let mut copies = Vec::new(alloc);
+    if to.is_standard() {
+        copies.push(from)?;
+    }
+    if let Some(words) = matches.get_strs("copies") {
+        copies.extend_from_slice(words)?;
+    }
+    Ok(Live {
+        to,
+        from: if to.is_standard() { to } else { Source(from) },
+        copies,
+        url: matches.get_str("url"),
+        one_by_one: matches.get_flag("one-by-one"),
+        progress: matches.get_flag("progress"),
+    })
+}
+
 // What is asked of one copy, by the name of its command.
 fn topic_of(name: &str, matches: &ArgMatches<'_>) -> Option<Topic> {
     let rev = || matches.get_one::<u64>("rev").map(|number| Rev(number));
@@ -304,6 +376,7 @@ pub(crate) fn request_of<'a>(alloc: Global, words: &'a [&'a str]) -> Result<Requ
         return Ok(Request::Ask(question_of(subject, words)));
     }
     match name {
+        "live" => Ok(Request::Live(live_of(alloc, words)?)),
         "show" => Ok(Request::Show(show_of(words))),
         _ => Ok(Request::Write(write_of(words))),
     }

@@ -6,6 +6,7 @@ use std::{fmt, io};
 use svn_answers::BusyFault;
 use svn_disk_audit::PristineRefusal;
 use svn_editor::PathWord;
+use svn_live_audit::LiveFault;
 use svn_repo::CommitFault;
 use svn_types::{PathFault, RelPath, Rev};
 
@@ -36,6 +37,12 @@ pub(crate) enum Fault {
     NoCopy,
     /// It is a file, and no folder.
     NoFolder,
+    /// No copy is named.
+    NoWords,
+    /// What the server reads can't be opened.
+    Unopened(io::Error),
+    /// The server gives no verdict.
+    Server(LiveFault),
     /// A client is at work on the copy, or was cut off.
     Busy(BusyFault),
     /// A pristine text can't be opened: its file, its stand-in, and why.
@@ -51,7 +58,15 @@ pub(crate) enum Fault {
 impl Fault {
     /// Whether it is a fault of what is read, which its line then names.
     pub(crate) fn is_of_input(&self) -> bool {
-        !matches!(self, Fault::BadPath(_) | Fault::Write | Fault::Memory)
+        !matches!(
+            self,
+            Fault::BadPath(_)
+                | Fault::NoWords
+                | Fault::Unopened(_)
+                | Fault::Write
+                | Fault::Memory
+                | Fault::Server(LiveFault::Memory)
+        )
     }
 }
 
@@ -93,6 +108,9 @@ impl fmt::Display for Fault {
             Fault::Refused(line, fault) => write!(f, "line {line}: {fault}"),
             Fault::NoCopy => f.write_str("no working copy"),
             Fault::NoFolder => f.write_str("this is a file: a working copy is a folder"),
+            Fault::Unopened(error) => write!(f, "what the server reads: {error}"),
+            Fault::NoWords => f.write_str("live TO FROM: no WC is named"),
+            Fault::Server(fault) => write!(f, "{fault}"),
             Fault::Busy(fault) => write!(f, "{fault}"),
             Fault::Pristine(refusal) => write!(f, "{refusal}"),
             Fault::Read => f.write_str("read fault"),

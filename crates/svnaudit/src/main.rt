@@ -9,6 +9,7 @@ mod dump_front;
 mod fault;
 mod folder;
 mod lines;
+mod live;
 mod load;
 mod on_disk;
 mod output;
@@ -20,6 +21,7 @@ mod write;
 
 use crate::command_line::{Request, request_of};
 use crate::fault::Fault;
+use crate::live::ask_server;
 use crate::questions::ask;
 use crate::show::show_dump;
 use crate::write::write_script;
@@ -50,6 +52,7 @@ fn answer<T: Files + Input + Print + Eprint + Clock + AllocGlobal>(
         Request::Show(show) => show_dump(rt, show).map(|()| Verdict::True),
         Request::Write(write) => write_script(rt, write).map(|()| Verdict::True),
         Request::Ask(question) => ask(rt, question),
+        Request::Live(live) => ask_server(rt, live),
     };
     match done {
         Ok(verdict) => ExitCode::from(verdict.status()),
