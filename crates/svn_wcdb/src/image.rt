@@ -90,7 +90,7 @@ fn fault_of(image: &Image) -> Result<(), Reason>
 }
 
 /// Reads the file's header. The first of these is returned: NotADatabase, PageSize, WriteAheadLog, Encoding, Format, CutOff.
-pub(crate) fn read_image(bytes: &[u8]) -> Result<Image<'_>, Reason>
+pub fn read_image(bytes: &[u8]) -> Result<Image<'_>, Reason>
     ensures { Answers seen_file result (image_of bytes.now) }
 {
     if !has_header(bytes) {

@@ -46,6 +46,8 @@
 //! memory are the rows of the tables that are read, of each no more bytes than the file has and some 40 for each row; a flag for each byte of a page
 //! while it is looked at; and the nodes.
 //!
+//! [`read_image`] and [`read_table`] read any table by its root page, for what writes a database and reads it back.
+//!
 //! Promises: a tree is returned only if it is what the bytes stand for, and else the refusal is the first fault, with the path of its row
 //! (`read_base_tree`, by `base_tree_of`; of a folder `read_base_tree_at`, by `base_tree_at`). Only a failed allocation may come anywhere. That the tests
 //! of pages and records are the kit's definitions of them: [`pages_are_well_formed`], [`records_are_whole`].
@@ -77,9 +79,13 @@ mod tree;
 
 pub use base_tree::{BaseTree, Origin, read_base_tree, read_base_tree_at};
 pub use fault::{Reason, TableName, WcdbFault};
+pub use image::read_image;
 pub use laws::{local_rows_change_nothing, pages_are_well_formed, records_are_whole};
 pub use notes::Notes;
+pub use pages::Image;
 pub use pristine::pristine_path;
 pub use pristines::Pristines;
 pub use refusal::Refusal;
 pub use svn_digits::{is_stand_in, stand_in};
+pub use table::TableRow;
+pub use tree::read_table;

@@ -4,12 +4,13 @@ ghost use Rattle.sqlite_pages.specs.PageMap.{IsUsableSize};
 
 /// A database file's bytes. Their header was read, and no page yet.
 #[derive(Clone, Copy, Debug)]
-pub(crate) struct Image<'a> {
-    pub(crate) bytes: &'a [u8],
+pub struct Image<'a> {
+    /// The whole file.
+    pub bytes: &'a [u8],
     /// How many bytes a page has.
-    pub(crate) size: usize,
+    pub size: usize,
     /// How many of them are used.
-    pub(crate) usable: usize,
+    pub usable: usize,
     ghost sized: { IsUsableSize size },
     ghost enough: { IsUsableSize usable },
     ghost within: { usable ≤ size },

@@ -3,11 +3,13 @@
 use std::alloc::Global;
 use svn_types::Text;
 
-/// A row of a table: its number, as SQLite's 64 bits, and its record. A `Text` holds any bytes, so a record's too.
-#[derive(Debug, Drop)]
-pub(crate) struct TableRow {
-    pub(crate) rowid: u64,
-    pub(crate) bytes: Text,
+/// A row of a table, as the database has it. A `Text` holds any bytes, so a record's too.
+#[derive(Debug, Drop, PartialEq, Eq)]
+pub struct TableRow {
+    /// Its number, as SQLite's 64 bits in two's complement.
+    pub rowid: u64,
+    /// Its record (fileformat2.html, section 2.1).
+    pub bytes: Text,
 }
 
 /// The rows of a table that were read so far.

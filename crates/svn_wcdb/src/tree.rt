@@ -156,13 +156,10 @@ fn push_tree(
     Ok(())
 }
 
-/// The rows of the table with that root page. It takes no more pages than the file has, one that is there twice counted twice, and 20 levels at most.
+/// The rows of the table with that root page, in their order; the schema's is page 1. It takes no more pages than the file has, one that is there twice
+/// counted twice, and 20 levels at most. BadPage, TooDeep, Loop, BadOverflow or BadRecord where it is no table, and Memory.
 #[tactic(auto, unfolding(crate::specs::Tables::table_rows))]
-pub(crate) fn read_table(
-    alloc: Global,
-    image: &Image,
-    root: u32,
-) -> Result<Vec<TableRow>, WcdbFault>
+pub fn read_table(alloc: Global, image: &Image, root: u32) -> Result<Vec<TableRow>, WcdbFault>
     ensures { Gives (λ rows. rows.items) result (table_rows (seen_file image.now) root) }
 {
     let mut table = Table::new(alloc, image.pages());

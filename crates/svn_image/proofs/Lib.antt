@@ -1,0 +1,2 @@
+-- rows of tables
+pub mod RowLemmas
