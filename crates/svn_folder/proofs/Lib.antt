@@ -1,0 +1,12 @@
+-- what a folder shows after a step
+pub mod Showing
+-- what a crash leaves of names that are on the disk
+pub mod Firm
+-- what is in a directory: only names that a step has made
+mod Made
+-- refusals that change nothing
+mod Refusing
+-- paths that were made, if they were
+mod Joining
+-- back through the steps
+mod Back

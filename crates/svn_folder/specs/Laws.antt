@@ -1,0 +1,47 @@
+-- What a crash can't undo, and that a file takes the place of another at once: what a step of an update rests on.
+use Rattle.std.specs.Prelude.{◌≡◌, ◌⊎◌, Bool, true, false, ◌&&◌, List, [], ◌∷◌}
+use Rattle.svn_types.specs.Names.{Path}
+use Rattle.svn_types.specs.Paths.{is_within, is_root, parent, child}
+use Rattle.svn_folder.specs.declared.step.Step.{Step}
+use Rattle.svn_folder.specs.declared.step.Step.TheVariants.{Rename, SyncDirectory}
+use Rattle.svn_folder.specs.Entries.{has_directory}
+use Rattle.svn_folder.specs.States.{Seen, Place, State, seen}
+use Rattle.svn_folder.specs.Steps.{is_none_older, run}
+use Rattle.svn_folder.specs.Crashes.{MayLeave, RunMayLeave, shown}
+
+-- the bytes and the name are on the disk
+abbrev pub is_firm : Place → Bool
+is_firm place = is_none_older place.older && place.now.is_synced
+
+abbrev pub is_way_below : State → Path → Path → Bool
+is_way_below s above [] = true
+is_way_below s above (n ∷ p) = is_firm (s above) && has_directory (s above).now.entry && is_way_below s (child above n) p
+
+-- each directory above a path is there, and its name is on the disk
+abbrev pub is_way : State → Path → Bool
+is_way s p = is_way_below s [] p
+
+-- A crash may leave what is shown: a program that is stopped, while the power stays, leaves that.
+abbrev pub what_is_shown_may_be_left : Type 0
+what_is_shown_may_be_left = (s : State) → MayLeave s (shown (seen s))
+
+-- What is on the disk, with each name on the way to it, is there after every crash.
+abbrev pub what_is_synced_stays : Type 0
+what_is_synced_stays = (s : State) (p : Path) (left : Seen) → is_way s p ≡ true → is_firm (s p) ≡ true → MayLeave s left → left p ≡ seen s p
+
+-- A file whose bytes are on the disk gets the path of an entry that is on the disk with all of its way, and then the directory is synced.
+abbrev pub replacing : Path → Path → List Step
+replacing p q = Rename p q ∷ SyncDirectory (parent q) ∷ []
+
+pub record CanReplace (s : State) (p q : Path) : Type 0 where
+  pub way : is_way s q ≡ true
+  pub old : is_firm (s q) ≡ true
+  pub new : (s p).now.is_synced ≡ true
+  pub apart : is_within p q ≡ false
+  pub below : is_root q ≡ false
+
+-- A crash at any moment of this leaves the old one or the new one, and a crash after it the new one.
+abbrev pub a_file_is_replaced_at_once : Type 0
+a_file_is_replaced_at_once =
+    (s : State) (p q : Path) (left : Seen) → CanReplace s p q
+    → (RunMayLeave s (replacing p q) left → (left q ≡ seen s q) ⊎ (left q ≡ seen s p)) × (MayLeave (run s (replacing p q)) left → left q ≡ seen s p)

@@ -1,0 +1,242 @@
+//! A folder of the system.
+
+use crate::entry::{Entry, Mode};
+use crate::fault::{FolderFault, Misfit};
+use crate::folder::Folder;
+use crate::step::Step;
+use std::alloc::{AllocError, Global};
+use std::fs::{File, FileTimes, Metadata, OpenFile, OpenOptions};
+use std::io::{ErrorKind, Write};
+use std::os::unix::fs::{OpenOptionsExt, PermissionsExt, symlink};
+use std::path::PathBuf;
+use std::rt::Files;
+use std::time::{Duration, SystemTime, UNIX_EPOCH};
+use std::{fs, io};
+use svn_types::{Name, RelPath, Text};
+
+/// Everybody may read.
+const READ: u32 = 0o444;
+
+/// Everybody may write, or run it as a program.
+const WRITE: u32 = 0o222;
+
+const EXECUTE: u32 = 0o111;
+
+/// A folder of the system. Each step is the calls that it names, and a look before it at what the system wouldn't refuse.
+///
+/// No contract says what the system does. That it keeps `specs/Crashes.antt`, that a rename is atomic, and that nobody else changes what is in the
+/// folder between a look and a step, is trusted.
+#[derive(Drop)]
+pub struct DiskFolder<'a, T> {
+    rt: &'a T,
+    root: PathBuf,
+}
+
+// The bits of a mode.
+fn bits_of(mode: Mode) -> u32 {
+    let write = if mode.read_only { 0 } else { WRITE };
+    let execute = if mode.executable { EXECUTE } else { 0 };
+    READ | write | execute
+}
+
+// A time in microseconds since 1970.
+fn time_of(micros: u64) -> io::Result<SystemTime> {
+    UNIX_EPOCH
+        .checked_add(Duration::from_micros(micros))
+        .ok_or(io::Error::from(ErrorKind::InvalidInput))
+}
+
+// The mode of a file, by what its owner may do.
+fn mode_of(file: &Metadata) -> Mode {
+    let bits = file.permissions().mode();
+    Mode {
+        executable: bits & 0o100 != 0,
+        read_only: bits & 0o200 == 0,
+    }
+}
+
+// Whether nothing is at a path: the name isn't there, or what should be a directory on the way isn't one.
+fn is_absent(error: &io::Error) -> bool {
+    matches!(error.kind(), ErrorKind::NotFound | ErrorKind::NotADirectory)
+}
+
+impl<'a, T: Files + AllocGlobal> DiskFolder<'a, T> {
+    /// The folder at a path of the system. Nothing is looked at.
+    pub fn new(rt: &'a T, root: PathBuf) -> DiskFolder<'a, T> {
+        DiskFolder { rt, root }
+    }
+
+    // The system's path of a path in the folder.
+    fn place(&self, path: &RelPath) -> Result<PathBuf, AllocError> {
+        let alloc = self.rt.alloc();
+        let below = format!(in alloc; "{path}")?;
+        self.root.join(alloc, below.as_str())
+    }
+
+    // The system's path of a name in the folder itself.
+    fn top(&self, name: &Name) -> Result<PathBuf, AllocError> {
+        self.root.join(self.rt.alloc(), name.as_str())
+    }
+
+    // Makes a file where none is, with the mode that it is to have, and writes its bytes.
+    fn make_file(
+        &self,
+        place: &PathBuf,
+        bytes: &[u8],
+        mode: Mode,
+        modified: Option<u64>,
+    ) -> io::Result<()> {
+        let mut options = OpenOptions::new();
+        options.write(true).create_new(true).mode(bits_of(mode));
+        let mut file = options.open(self.rt, place)?;
+        file.write_all(bytes)?;
+        match modified {
+            Some(micros) => file.set_times(FileTimes::new().set_modified(time_of(micros)?)),
+            None => Ok(()),
+        }
+    }
+
+    // Makes a link. A target that isn't UTF-8 is refused.
+    fn make_link(&self, place: &PathBuf, target: &[u8]) -> io::Result<()> {
+        match str::from_utf8(target) {
+            Ok(target) => symlink(self.rt, target, place),
+            Err(_) => Err(io::Error::from(ErrorKind::InvalidInput)),
+        }
+    }
+
+    fn make(&self, place: &PathBuf, entry: &Entry, modified: Option<u64>) -> io::Result<()> {
+        match entry {
+            Entry::File(bytes, mode) => self.make_file(place, bytes.as_slice(), *mode, modified),
+            Entry::Directory => fs::create_dir(self.rt, place),
+            Entry::Link(target) => self.make_link(place, target.as_slice()),
+        }
+    }
+
+    // Syncs a file or a directory. It is opened for reading, which suffices.
+    fn sync(&self, place: &PathBuf) -> io::Result<()> {
+        File::open(self.rt, place)?.sync_all()
+    }
+
+    fn rename_directory(&self, from: &PathBuf, to: &PathBuf) -> io::Result<()> {
+        fs::rename(self.rt, from, to)?;
+        self.sync(&self.root)
+    }
+
+    // The calls of a step.
+    fn call(&self, step: &Step) -> Result<io::Result<()>, AllocError> {
+        Ok(match step {
+            Step::Make {
+                path,
+                entry,
+                modified,
+            } => self.make(&self.place(path)?, entry, *modified),
+            Step::SyncFile(path) | Step::SyncDirectory(path) => self.sync(&self.place(path)?),
+            Step::Rename { from, to } => {
+                fs::rename(self.rt, &self.place(from)?, &self.place(to)?)
+            }
+            Step::RenameDirectory { from, to } => {
+                self.rename_directory(&self.top(from)?, &self.top(to)?)
+            }
+            Step::RemoveFile(path) => fs::remove_file(self.rt, &self.place(path)?),
+            Step::RemoveDirectory(path) => fs::remove_dir(self.rt, &self.place(path)?),
+        })
+    }
+
+    // What the system knows of an entry, by its own path.
+    fn found(&self, place: &PathBuf) -> io::Result<Option<Metadata>> {
+        match fs::symlink_metadata(self.rt, place) {
+            Ok(found) => Ok(Some(found)),
+            Err(error) if is_absent(&error) => Ok(None),
+            Err(error) => Err(error),
+        }
+    }
+
+    fn is_directory(&self, place: &PathBuf) -> io::Result<bool> {
+        Ok(match self.found(place)? {
+            Some(found) => found.is_dir(),
+            None => false,
+        })
+    }
+
+    fn is_file(&self, place: &PathBuf) -> io::Result<bool> {
+        Ok(match self.found(place)? {
+            Some(found) => found.is_file(),
+            None => false,
+        })
+    }
+
+    // The system would put a directory in place of an empty one, and would rename a file.
+    fn rename_directory_misfit(&self, from: &PathBuf, to: &PathBuf) -> io::Result<Option<Misfit>> {
+        if !self.is_directory(from)? {
+            return Ok(Some(Misfit::NoDirectory));
+        }
+        Ok(self.found(to)?.map(|_| Misfit::Taken))
+    }
+
+    // Why a step doesn't fit, as far as the system wouldn't refuse it.
+    fn misfit(&self, step: &Step) -> Result<io::Result<Option<Misfit>>, AllocError> {
+        Ok(match step {
+            Step::SyncFile(path) => self
+                .is_file(&self.place(path)?)
+                .map(|is| if is { None } else { Some(Misfit::NoFile) }),
+            Step::SyncDirectory(path) => self
+                .is_directory(&self.place(path)?)
+                .map(|is| if is { None } else { Some(Misfit::NoDirectory) }),
+            Step::Rename { from, .. } => self
+                .is_directory(&self.place(from)?)
+                .map(|is| if is { Some(Misfit::NoFile) } else { None }),
+            Step::RenameDirectory { from, to } => {
+                self.rename_directory_misfit(&self.top(from)?, &self.top(to)?)
+            }
+            Step::Make { .. } | Step::RemoveFile(_) | Step::RemoveDirectory(_) => Ok(None),
+        })
+    }
+
+    // The entry that was found there.
+    fn entry(&self, place: &PathBuf, found: &Metadata) -> io::Result<Entry> {
+        if found.is_dir() {
+            return Ok(Entry::Directory);
+        }
+        let alloc = self.rt.alloc();
+        if found.is_symlink() {
+            let target = fs::read_link(self.rt, place)?;
+            return Ok(Entry::Link(Text::from_str(alloc, target.as_str())?));
+        }
+        // reading anything else, as a pipe, might wait
+        if !found.is_file() {
+            return Err(io::Error::from(ErrorKind::Unsupported));
+        }
+        Ok(Entry::File(Text::new(fs::read(self.rt, place)?), mode_of(found)))
+    }
+
+    fn entry_at(&self, place: &PathBuf) -> io::Result<Option<Entry>> {
+        Ok(match self.found(place)? {
+            Some(found) => Some(self.entry(place, &found)?),
+            None => None,
+        })
+    }
+}
+
+impl<T: Files + AllocGlobal> Folder for DiskFolder<'_, T> {
+    fn take(&mut self, step: Step) -> Result<(), FolderFault> {
+        match self.misfit(&step)? {
+            Ok(None) => {}
+            Ok(Some(misfit)) => return Err(FolderFault::Refused { step, misfit }),
+            Err(error) => return Err(FolderFault::Failed { step, error }),
+        }
+        match self.call(&step)? {
+            Ok(()) => Ok(()),
+            Err(error) => Err(FolderFault::Failed { step, error }),
+        }
+    }
+
+    fn look(&self, _alloc: Global, path: &RelPath) -> Result<Option<Entry>, FolderFault> {
+        match self.entry_at(&self.place(path)?) {
+            Ok(entry) => Ok(entry),
+            Err(error) => Err(FolderFault::Unread {
+                path: path.clone()?,
+                error,
+            }),
+        }
+    }
+}

@@ -1,0 +1,166 @@
+//! What a crash may leave at a path of a folder in memory.
+ghost use Rattle.std.specs.Prelude.{◌≡◌, [], if◌then◌else◌, IfOk, MatchOption};
+ghost use Rattle.svn_folder.specs.States.{Place, State, empty, nothing, fresh, vacant, with_name, becomes};
+ghost use Rattle.svn_folder.specs.Steps.{put, sync_file, is_in, moved};
+ghost use Rattle.svn_folder.specs.Memory.{IsPlace};
+
+use crate::entry::Entry;
+use crate::held::{Held, Left};
+use crate::memory::under;
+use crate::step::Step;
+use std::alloc::{AllocError, Global};
+use svn_types::{Name, PathFault, RelPath};
+
+// At a path that has always stood for this.
+fn always(alloc: Global, held: Held) -> Left
+    ensures { IsPlace (record { now = held; older = [] }) result }
+{
+    Left {
+        now: held,
+        older: Vec::new(alloc),
+    }
+}
+
+// In an empty folder.
+fn at_first(alloc: Global, path: &RelPath) -> Left
+    ensures { IsPlace (empty path.now) result }
+{
+    if path.is_root() {
+        let root = Held {
+            entry: Some(Entry::Directory),
+            is_synced: true,
+        };
+        return always(alloc, root);
+    }
+    always(alloc, Held::nothing())
+}
+
+// Once it stands for something else.
+fn newer(held: Held, left: Left) -> Result<Left, AllocError>
+    ensures { IfOk result (λ l. (place : Place) → IsPlace place left → IsPlace (becomes held place) l) }
+{
+    let Left { now, mut older } = left;
+    older.push(now)?;
+    Ok(Left { now: held, older })
+}
+
+// Once an entry is made somewhere.
+fn made(at: &RelPath, entry: &Entry, path: &RelPath, left: Left) -> Result<Left, AllocError>
+    ensures { IfOk result (λ l. (s : State) → IsPlace (s path.now) left → IsPlace (put at.now (fresh entry.now) s path.now) l) }
+{
+    if at == path {
+        return newer(Held::fresh(entry)?, left);
+    }
+    Ok(left)
+}
+
+// Once nothing is somewhere.
+fn removed(at: &RelPath, path: &RelPath, left: Left) -> Result<Left, AllocError>
+    ensures { IfOk result (λ l. (s : State) → IsPlace (s path.now) left → IsPlace (put at.now nothing s path.now) l) }
+{
+    if at == path {
+        return newer(Held::nothing(), left);
+    }
+    Ok(left)
+}
+
+// Once the bytes of a file are synced.
+fn synced(at: &RelPath, path: &RelPath, left: Left) -> Left
+    ensures { (s : State) → IsPlace (s path.now) left → IsPlace (sync_file at.now s path.now) result }
+{
+    if at != path {
+        return left;
+    }
+    let Left { now, older } = left;
+    Left {
+        now: Held {
+            entry: now.entry,
+            is_synced: true,
+        },
+        older,
+    }
+}
+
+// Once its name is synced, if it is.
+fn named(alloc: Global, counts: bool, left: Left) -> Left
+    ensures { (place : Place) → IsPlace place left → IsPlace (if counts then with_name place else place) result }
+{
+    if counts {
+        return always(alloc, left.now);
+    }
+    left
+}
+
+// Whether a path is that of something in a directory.
+fn is_inside(alloc: Global, directory: &RelPath, path: &RelPath) -> Result<bool, AllocError>
+    ensures { IfOk result (λ b. b ≡ is_in directory.now path.now) }
+{
+    Ok(match path.parent(alloc)? {
+        Some(parent) => parent == *directory,
+        None => false,
+    })
+}
+
+// Where what is at a path was before a directory was renamed, none if nothing is there.
+fn before_rename(
+    alloc: Global,
+    from: &Name,
+    to: &Name,
+    path: &RelPath,
+) -> Result<Option<RelPath>, PathFault>
+    ensures { IfOk result (λ o. (s : State) → MatchOption o (moved from.now to.now s path.now ≡ vacant) (λ q. moved from.now to.now s path.now ≡ s q)) }
+{
+    let Some(first) = path.components().first() else {
+        return Ok(Some(path.clone()?));
+    };
+    if from == first {
+        return Ok(None);
+    }
+    if to == first {
+        return Ok(Some(under(alloc, from, path)?));
+    }
+    Ok(Some(path.clone()?))
+}
+
+/// What the name at a path may stand for after these steps, beginning with nothing.
+// Its parts are proved, and the whole isn't yet: that it is `run empty steps path`.
+pub(crate) fn left_at(alloc: Global, steps: &[Step], path: &RelPath) -> Result<Left, PathFault> {
+    let Some((step, before)) = steps.split_last() else {
+        return Ok(at_first(alloc, path));
+    };
+    let left = match step {
+        Step::Make {
+            path: at,
+            entry,
+            ..
+        } => made(at, entry, path, left_at(alloc, before, path)?)?,
+        Step::SyncFile(at) => synced(at, path, left_at(alloc, before, path)?),
+        Step::SyncDirectory(at) => {
+            let counts = left_at(alloc, before, at)?.older.is_empty()
+                && is_inside(alloc, at, path)?;
+            named(alloc, counts, left_at(alloc, before, path)?)
+        }
+        Step::Rename { from, to } => {
+            let left = removed(from, path, left_at(alloc, before, path)?)?;
+            if to == path {
+                newer(left_at(alloc, before, from)?.now, left)?
+            } else {
+                left
+            }
+        }
+        Step::RenameDirectory { from, to } => {
+            let root = RelPath::root(alloc);
+            let counts = left_at(alloc, before, &root)?.older.is_empty()
+                && is_inside(alloc, &root, path)?;
+            let left = match before_rename(alloc, from, to, path)? {
+                Some(origin) => left_at(alloc, before, &origin)?,
+                None => always(alloc, Held::nothing()),
+            };
+            named(alloc, counts, left)
+        }
+        Step::RemoveFile(at) | Step::RemoveDirectory(at) => {
+            removed(at, path, left_at(alloc, before, path)?)?
+        }
+    };
+    Ok(left)
+}

@@ -1,0 +1,48 @@
+//! A folder on disk: the steps that change it, what it shows, and what a crash at any moment may leave of it. It is what a working copy is written
+//! through, so that whoever writes can prove that a cut leaves the old one or the new one.
+//!
+//! ```
+//! let path = RelPath::parse(alloc, "notes")?;
+//! let new = RelPath::parse(alloc, "notes.new")?;
+//! folder.take(Step::Make { path: new.clone()?, entry: Entry::File(text, Mode::PLAIN), modified: None })?;
+//! folder.take(Step::SyncFile(new.clone()?))?;
+//! folder.take(Step::Rename { from: new, to: path })?;
+//! folder.take(Step::SyncDirectory(RelPath::root(alloc)))?;
+//! ```
+//!
+//! A [`Folder`] takes [`Step`]s, one by one, and shows the [`Entry`] at a path. Three are here: [`MemoryFolder`], on which tests run, [`DiskFolder`], a
+//! folder of the system, and [`StoppedFolder`], which takes so many steps of another one and refuses all after them.
+//!
+//! Definitions, in the order of reading: `specs/Entries.antt` and `States.antt` (what a path stands for, and what of it is on the disk), `Steps.antt` (when
+//! a step fits, and what it does), `Crashes.antt` (what a crash may leave, and what that assumes of a disk), `Pasts.antt` (what is known of a folder, and
+//! what a crash since a moment may have left), `Laws.antt`.
+//!
+//! Promises: a step that is taken fitted, and is the next of those that the folder has taken; one that is refused changed nothing; after one that the
+//! system failed at, nothing more is promised than what a crash may leave (`Takes`). What is shown is what these steps leave (`Shows`). A folder in
+//! memory refuses a step only if it doesn't fit (`refused`). One that has stopped stays as it was (`stopped`). Of a folder of the system no contract
+//! speaks (`disk.rt` says what is trusted). The laws, which callers use, are in `laws`: what is on the disk with all of its way stays there, and a
+//! synced file takes the place of another at once.
+//!
+//! The tests are in `test_folder`.
+#![tactic(auto)]
+
+mod disk;
+mod entry;
+mod fault;
+mod folder;
+mod held;
+mod laws;
+mod left;
+mod memory;
+mod step;
+mod stopped;
+
+pub use disk::DiskFolder;
+pub use entry::{Entry, Mode};
+pub use fault::{FolderFault, Misfit};
+pub use folder::Folder;
+pub use held::{Held, Left};
+pub use laws::{a_file_is_replaced_at_once, what_is_shown_may_be_left, what_is_synced_stays};
+pub use memory::MemoryFolder;
+pub use step::Step;
+pub use stopped::StoppedFolder;

@@ -1,0 +1,163 @@
+//! Folders: each step and each refusal in memory and on disk, a folder that stops after each number of steps, and what a crash may leave.
+#![tactic(auto)]
+
+mod tables;
+
+use anyhow::{Result, bail};
+use std::alloc::Global;
+use std::path::PathBuf;
+use std::rt::Files;
+use svn_folder::{DiskFolder, Entry, Folder, FolderFault, Held, MemoryFolder, StoppedFolder};
+use svn_types::RelPath;
+use tables::{ACTS, Act, CARELESS, MOVED, PATHS, REPLACED, step_of};
+
+// The folder of the system that is tried, where the program runs.
+const TRIED: &str = "tried_folder";
+
+// What is at a path.
+fn look<F: Folder>(
+    alloc: Global,
+    folder: &F,
+    path: &str,
+) -> std::result::Result<Option<Entry>, FolderFault> {
+    folder.look(alloc, &RelPath::parse(alloc, path)?)
+}
+
+// Takes a step, and says what was done or why it wasn't.
+fn told<F: Folder>(alloc: Global, folder: &mut F, act: Act) -> Result<(bool, String)> {
+    let step = step_of(alloc, act)?;
+    let words = format!(in alloc; "{step}")?;
+    Ok(match folder.take(step) {
+        Ok(()) => (true, words),
+        Err(fault) => (false, format!(in alloc; "{fault}")?),
+    })
+}
+
+// Fails where one folder shows something else than another.
+fn compare<F: Folder, G: Folder>(alloc: Global, one: &F, other: &G, words: &str) -> Result<()> {
+    for path in PATHS {
+        if look(alloc, one, path)? != look(alloc, other, path)? {
+            bail!("{words}: another entry at `{path}`")
+        }
+    }
+    Ok(())
+}
+
+// Takes a step in memory and on disk.
+fn take_both<R: Print + AllocGlobal, F: Folder, G: Folder>(
+    rt: &R,
+    memory: &mut F,
+    disk: &mut G,
+    act: Act,
+) -> Result<()> {
+    let alloc = rt.alloc();
+    let (taken, words) = told(alloc, memory, act)?;
+    println!(rt; "{words}")?;
+    let (other, other_words) = told(alloc, disk, act)?;
+    if taken != other {
+        bail!("{words}: {other_words}")
+    }
+    compare(alloc, memory, disk, &words)
+}
+
+// The folder on disk, which is empty.
+fn tried<R: Files + AllocGlobal>(rt: &R) -> Result<DiskFolder<'_, R>> {
+    if std::fs::exists(rt, TRIED)? {
+        std::fs::remove_dir_all(rt, TRIED)?;
+    }
+    std::fs::create_dir(rt, TRIED)?;
+    Ok(DiskFolder::new(rt, PathBuf::from_str(rt.alloc(), TRIED)?))
+}
+
+fn try_both<R: Files + Print + AllocGlobal>(rt: &R) -> Result<()> {
+    let mut memory = MemoryFolder::new(rt.alloc());
+    let mut disk = tried(rt)?;
+    for act in ACTS {
+        take_both(rt, &mut memory, &mut disk, act)?;
+    }
+    std::fs::remove_dir_all(rt, TRIED)?;
+    Ok(())
+}
+
+// What a file holds, in words.
+fn words_of(alloc: Global, entry: Option<Entry>) -> Result<String> {
+    Ok(match entry {
+        Some(Entry::File(bytes, _)) => String::from_utf8_lossy(alloc, bytes.as_slice())?,
+        Some(entry) => format!(in alloc; "{entry}")?,
+        None => String::from_str(alloc, "nothing")?,
+    })
+}
+
+// Prints what is left of a replacement that stops after so many steps.
+fn stop<R: Print + AllocGlobal>(rt: &R, limit: u64) -> Result<()> {
+    let alloc = rt.alloc();
+    let mut folder = StoppedFolder::new(MemoryFolder::new(alloc), limit);
+    let mut refused = 0u64;
+    for act in REPLACED {
+        let (taken, _) = told(alloc, &mut folder, act)?;
+        if !taken {
+            refused = refused.saturating_add(1);
+        }
+    }
+    let file = words_of(alloc, look(alloc, &folder, "f")?)?;
+    let other = words_of(alloc, look(alloc, &folder, "t")?)?;
+    println!(rt; "stopped after {limit}: {refused} refused; f: {file}, t: {other}")?;
+    Ok(())
+}
+
+fn write_left(alloc: Global, held: Held, words: &mut String) -> Result<()> {
+    if !words.as_str().is_empty() {
+        words.push_str(" or ")?;
+    }
+    if held.is_synced {
+        words.push_str(&words_of(alloc, held.entry)?)?;
+    } else {
+        words.push_str("any file")?;
+    }
+    Ok(())
+}
+
+// What a crash may leave at a path, in words.
+fn left_words(alloc: Global, folder: &MemoryFolder, path: &str) -> Result<String> {
+    let left = folder.left_at(&RelPath::parse(alloc, path)?)?;
+    let mut words = String::new(alloc);
+    for held in left.older {
+        write_left(alloc, held, &mut words)?;
+    }
+    write_left(alloc, left.now, &mut words)?;
+    Ok(words)
+}
+
+// Takes the next step, and prints what a crash may leave at two paths afterwards.
+fn crash<R: Print + AllocGlobal>(
+    rt: &R,
+    folder: &mut MemoryFolder,
+    act: Act,
+    (one, other): (&str, &str),
+) -> Result<()> {
+    let alloc = rt.alloc();
+    let (_, words) = told(alloc, folder, act)?;
+    let left = left_words(alloc, folder, one)?;
+    let right = left_words(alloc, folder, other)?;
+    println!(rt; "{words}; after a crash {one}: {left}; {other}: {right}")?;
+    Ok(())
+}
+
+fn crash_in<R: Print + AllocGlobal>(rt: &R, acts: &[Act], paths: (&str, &str)) -> Result<()> {
+    let mut folder = MemoryFolder::new(rt.alloc());
+    for act in acts {
+        crash(rt, &mut folder, *act, paths)?;
+    }
+    Ok(())
+}
+
+fn main(rt: HostRuntime) -> Result<()> {
+    try_both(&rt)?;
+    for limit in 0..=6 {
+        stop(&rt, limit)?;
+    }
+    crash_in(&rt, &REPLACED, ("f", "t"))?;
+    crash_in(&rt, &CARELESS, ("f", "t"))?;
+    crash_in(&rt, &MOVED, ("f/x", "t/x"))?;
+    Ok(())
+}
