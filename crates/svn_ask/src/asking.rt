@@ -3,6 +3,7 @@ ghost use Rattle.std.specs.Prelude.{◌≡◌, ◌++◌, OnOk};
 ghost use Rattle.svn_ask.specs.Asking.{asked_at, is_opened};
 ghost use Rattle.svn_ask.specs.Courses.{comes_of, end_fault, refused, started, HearsAll, IsFault, UnlessMemory};
 ghost use Rattle.svn_ask.specs.Laws.{IsAfter};
+ghost use Rattle.svn_wire.specs.Streams.{HoldsWithin};
 
 use crate::fault::{AskFault, Reason};
 use crate::hearer::Hearer;
@@ -73,6 +74,8 @@ impl Asking {
         out: &mut Vec<u8>,
         hearer: &mut H,
     ) -> Result<(), AskFault>
+        // it holds no more than the limits
+        ensures held { OnOk result (HoldsWithin self.new.stream) }
         ensures after { OnOk result (IsAfter self.old questions.old bytes.now self.new questions.new) }
         ensures written { OnOk result (out.new.items ≡ out.old.items ++ (comes_of self.old questions.old bytes.now).written) }
         ensures heard { UnlessMemory result (HearsAll H.hears hearer.old (comes_of self.old questions.old bytes.now).heard hearer.new) }

@@ -1,6 +1,6 @@
 //! What comes of each item of a connection.
-ghost use Rattle.std.specs.Prelude.{◌≡◌, ◌++◌, option_map, IfOk, IfErr, OnOk, Ok};
-ghost use Rattle.svn_wire.specs.Streams.{reads_now, TakesItem as TakesTokens};
+ghost use Rattle.std.specs.Prelude.{◌≡◌, ◌++◌, option_map, IfOk, IfErr, MatchOption, OnOk, Ok};
+ghost use Rattle.svn_wire.specs.Streams.{reads_now, HoldsWithin, TakesItem as TakesTokens};
 ghost use Rattle.svn_ask.specs.Reading.{Fails};
 ghost use Rattle.svn_ask.specs.Asking.{answered, asked_at, is_opened, taken};
 ghost use Rattle.svn_ask.specs.Openings.{opened};
@@ -72,6 +72,7 @@ fn waits(fault: WireFault) -> Result<(), AskFault>
 fn next_item(stream: &mut ItemStream) -> Result<Option<Vec<Token>>, AskFault>
     ensures item { IfOk result (λ item. TakesTokens stream.old (option_map (λ v. v.items) item) stream.new) }
     ensures fault { IfErr result (λ e. FailsItem e (reads_now stream.old)) }
+    ensures held { IfOk result (λ item. MatchOption item (HoldsWithin stream.new) (λ _. Unit {0})) }
 {
     match stream.next_item() {
         Ok(item) => Ok(item),
@@ -161,6 +162,7 @@ impl Talk {
         hearer: &mut H,
     ) -> Result<(), AskFault>
         ensures ends { OnOk result (Ends H.hears self.old.speaker stream.old (state_at self.old questions.old) hearer.old out.old.items stream.new (state_at self.new questions.new) hearer.new out.new.items) }
+        ensures held { OnOk result (HoldsWithin stream.new) }
         ensures same { self.new.speaker ≡ self.old.speaker }
         ensures refused { IfErr result (λ e. IsRefused H.hears self.old.speaker stream.old (state_at self.old questions.old) hearer.old hearer.new e) }
     {

@@ -24,3 +24,5 @@ pub mod StreamItems
 pub mod SessionLemmas
 -- URLs, read as they were written
 pub mod UrlReads
+-- what is held of a stream
+pub mod Holding

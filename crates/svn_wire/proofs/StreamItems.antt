@@ -1,12 +1,12 @@
 -- The items of a stream that comes in pieces, one after the other.
-use Rattle.std.proofs.Common.{◌≡◌, ◌⊎◌, inl, inr, ℕ, zero, suc, ◌+◌, ◌<◌, ◌≤◌, Bool, true, List, [], ◌∷◌, ◌++◌, length, nat_eq, Result, Ok, Err, refl, sym, ap, ◌∙◌, append-nil, append_assoc, arith}
+use Rattle.std.proofs.Common.{◌≡◌, ◌⊎◌, inl, inr, ℕ, zero, suc, ◌+◌, ◌<◌, ◌≤◌, List, [], ◌∷◌, ◌++◌, length, Result, Ok, Err, refl, sym, ap, ◌∙◌, append-nil, append_assoc, arith}
 use Rattle.svn_wire.specs.declared.fault.Malformed.{Malformed}
 use Rattle.svn_wire.specs.declared.fault.Stop.{Stop}
 use Rattle.svn_wire.specs.declared.fault.Stop.TheVariants.{More, Bad}
 use Rattle.svn_wire.specs.declared.item.Limits.{Limits}
 use Rattle.svn_wire.specs.declared.token.Token.{Token}
 use Rattle.svn_wire.specs.Items.{with_front, tokens_at, item_at}
-use Rattle.svn_wire.specs.Streams.{Waiting, fresh, with_bytes, reads_now, goes_on, IsSameStream, is_between}
+use Rattle.svn_wire.specs.Streams.{Waiting, fresh, with_bytes, reads_now, goes_on, IsSameStream}
 use Rattle.svn_wire.specs.Laws.{with_more}
 use Rattle.svn_wire.specs.Sessions.{Heard, found, items_from, items_of, items_in, LeavesOff}
 use Rattle.svn_wire.proofs.Choices.{ok_parts}

@@ -1,7 +1,8 @@
 use Rattle.std.proofs.Common.{◌≡◌, Some, sym, ap, subst, ◌∙◌}
+use Rattle.std.specs.Prelude.{MatchOption}
 use Rattle.std.specs.Option.{option_map}
 use Rattle.svn_lists.proofs.Results.{IfErr_returned}
-use Rattle.svn_wire.specs.Streams.{TakesItem as TakesTokens}
+use Rattle.svn_wire.specs.Streams.{HoldsWithin, TakesItem as TakesTokens}
 use Rattle.svn_wire.proofs.StreamItems.{fewer_bytes}
 use Rattle.svn_ask.specs.declared.fault.AskFault.{AskFault}
 use Rattle.svn_ask.specs.Reading.{Fails}
@@ -68,3 +69,7 @@ returns-clause-ends g c =
     ends g.H.Hearer.hears from.speaker c.args.stream.now (state_at from c.args.questions.now) c.args.hearer.now c.args.out.now.items c.items.stream
     c.next_item.new.stream (state_at c.items.self c.items.questions) c.items.hearer c.items.out.items c.items.invariant.goes
     (subst (λ o. TakesTokens c.items.stream (option_map (λ v. v.items) o) c.next_item.new.stream) c.in_default.is c.in_ok-item.ensures.item)
+
+pub returns-clause-held : goal.returns-clause-held
+returns-clause-held g c =
+    subst (λ o. MatchOption o (HoldsWithin c.next_item.new.stream) (λ _. Unit {0})) c.in_default.is c.in_ok-item.ensures.held
