@@ -1,5 +1,5 @@
 -- A refusal that changes nothing is one of those that a folder may give.
-use Rattle.std.proofs.Common.{◌≡◌, inl, refl}
+use Rattle.std.proofs.Common.{inl, refl}
 use Rattle.std.specs.Prelude.{Err}
 use Rattle.svn_folder.specs.declared.step.Step.{Step}
 use Rattle.svn_folder.specs.declared.fault.FolderFault.{FolderFault}

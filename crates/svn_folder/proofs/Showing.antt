@@ -1,6 +1,6 @@
 -- What a folder shows after a step, path by path.
 use Rattle.std.proofs.Common.{◌≡◌, Bool, true, false, ◌&&◌, List, [], ◌∷◌, ◌++◌, refl, ◌∙◌, ap}
-use Rattle.std.specs.Prelude.{cond, bytes_eq, Some, None}
+use Rattle.std.specs.Prelude.{cond, bytes_eq, None}
 use Rattle.svn_types.specs.Names.{Path}
 use Rattle.svn_types.specs.Paths.{path_eq}
 use Rattle.svn_types.proofs.NameLemmas.{Name}

@@ -8,13 +8,13 @@
 --   - what was synced stays, and nothing else changes.
 -- A sync of a directory counts only if its own name is on the disk. A directory that gets another name (`RenameDirectory`) takes what is below it
 -- along, and has that name on the disk when the step is done.
-use Rattle.std.specs.Prelude.{◌≡◌, ◌⊎◌, Bool, true, false, List, [], ◌∷◌, Option, None, if◌then◌else◌}
+use Rattle.std.specs.Prelude.{◌≡◌, ◌⊎◌, true, false, List, [], ◌∷◌, Option, None, if◌then◌else◌}
 use Rattle.svn_types.specs.Names.{Path}
 use Rattle.svn_types.specs.Paths.{child}
 use Rattle.svn_folder.specs.declared.entry.Entry.{Entry}
 use Rattle.svn_folder.specs.declared.step.Step.{Step}
 use Rattle.svn_folder.specs.Entries.{has_file, has_directory}
-use Rattle.svn_folder.specs.States.{Seen, Held, Place, State}
+use Rattle.svn_folder.specs.States.{Seen, Held, State}
 use Rattle.svn_folder.specs.Steps.{after, begun}
 
 -- an entry as it is, or, if its bytes aren't on the disk, any file

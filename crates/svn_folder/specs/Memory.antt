@@ -1,5 +1,5 @@
 -- How a folder in memory finds what is at a path, and what a crash may leave there: back through the steps that it has taken.
-use Rattle.std.specs.Prelude.{◌≡◌, ℕ, List, [], ◌∷◌, Option, Some, None, ⊤}
+use Rattle.std.specs.Prelude.{◌≡◌, List, [], ◌∷◌, Option, Some, None, ⊤}
 use Rattle.svn_types.specs.Names.{Path}
 use Rattle.svn_types.specs.Paths.{child}
 use Rattle.svn_folder.specs.declared.entry.Entry.{Entry}

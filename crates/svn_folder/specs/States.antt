@@ -1,5 +1,5 @@
 -- A folder at one moment: what each path stands for, and what of that is on the disk. What it shows is a map from paths.
-use Rattle.std.specs.Prelude.{Bool, true, false, not, List, [], ◌∷◌, ◌++◌, Option, Some, None}
+use Rattle.std.specs.Prelude.{true, not, List, [], ◌∷◌, ◌++◌, Option, Some, None}
 use Rattle.svn_types.specs.Names.{Path}
 use Rattle.svn_folder.specs.declared.entry.Entry.{Entry}
 use Rattle.svn_folder.specs.declared.entry.Entry.TheVariants.{Directory}

@@ -3,13 +3,13 @@
 --     after step s      it has been taken
 --     begun step s      in what states a crash may catch it, besides those before it and after it
 --     run s steps      after all of them
-use Rattle.std.specs.Prelude.{◌≡◌, ℕ, Bool, true, false, ◌&&◌, not, List, [], ◌∷◌, bytes_eq, Option, Some, None, if◌then◌else◌}
+use Rattle.std.specs.Prelude.{◌≡◌, ℕ, Bool, true, false, ◌&&◌, not, List, [], ◌∷◌, bytes_eq, None, if◌then◌else◌}
 use Rattle.svn_types.specs.Names.{Path}
 use Rattle.svn_types.specs.Paths.{path_eq, is_root, parent, child, last_name}
 use Rattle.svn_folder.specs.declared.step.Step.{Step}
 use Rattle.svn_folder.specs.declared.step.Step.TheVariants.{Make, SyncFile, SyncDirectory, Rename, RenameDirectory, RemoveFile, RemoveDirectory}
 use Rattle.svn_folder.specs.Entries.{has_file, has_leaf, has_directory}
-use Rattle.svn_folder.specs.States.{Held, Place, State, seen, nothing, fresh, becomes, with_bytes, with_name, vacant}
+use Rattle.svn_folder.specs.States.{Held, State, seen, nothing, fresh, becomes, with_bytes, with_name, vacant}
 
 -- ---- what a step does
 

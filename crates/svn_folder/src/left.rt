@@ -1,7 +1,7 @@
 //! What a crash may leave at a path of a folder in memory.
 ghost use Rattle.std.specs.Prelude.{◌≡◌, [], if◌then◌else◌, IfOk, MatchOption};
 ghost use Rattle.svn_folder.specs.States.{Place, State, empty, nothing, fresh, vacant, with_name, becomes};
-ghost use Rattle.svn_folder.specs.Steps.{put, sync_file, is_in, moved};
+ghost use Rattle.svn_folder.specs.Steps.{put, sync_file, sync_directory, is_in, moved, after, run};
 ghost use Rattle.svn_folder.specs.Memory.{IsPlace};
 
 use crate::entry::Entry;
@@ -101,6 +101,37 @@ fn is_inside(alloc: Global, directory: &RelPath, path: &RelPath) -> Result<bool,
     })
 }
 
+// Once the names in a directory are synced, if its own name is.
+fn directory_synced(
+    alloc: Global,
+    at: &RelPath,
+    path: &RelPath,
+    directory: &Left,
+    left: Left,
+) -> Result<Left, AllocError>
+    ensures { IfOk result (λ l. (s : State) → IsPlace (s at.now) directory.entry.now → IsPlace (s path.now) left → IsPlace (sync_directory at.now s path.now) l) }
+{
+    let counts = is_inside(alloc, at, path)? && directory.older.is_empty();
+    Ok(named(alloc, counts, left))
+}
+
+// Once a file has another path.
+fn renamed(
+    from: &RelPath,
+    to: &RelPath,
+    path: &RelPath,
+    source: Left,
+    left: Left,
+) -> Result<Left, AllocError>
+    ensures { IfOk result (λ l. (s : State) → IsPlace (s from.now) source → IsPlace (s path.now) left → IsPlace (after (Step.Rename from.now to.now) s path.now) l) }
+{
+    let left = removed(from, path, left)?;
+    if to == path {
+        return newer(source.now, left);
+    }
+    Ok(left)
+}
+
 // Where what is at a path was before a directory was renamed, none if nothing is there.
 fn before_rename(
     alloc: Global,
@@ -122,45 +153,41 @@ fn before_rename(
     Ok(Some(path.clone()?))
 }
 
-/// What the name at a path may stand for after these steps, beginning with nothing.
-// Its parts are proved, and the whole isn't yet: that it is `run empty steps path`.
-pub(crate) fn left_at(alloc: Global, steps: &[Step], path: &RelPath) -> Result<Left, PathFault> {
+/// What the name at a path may stand for after these steps, beginning with nothing. Its time doubles with each rename, and each sync of a directory.
+pub(crate) fn left_at(alloc: Global, steps: &[Step], path: &RelPath) -> Result<Left, PathFault>
+    ensures { IfOk result (IsPlace (run empty steps.now path.now)) }
+{
     let Some((step, before)) = steps.split_last() else {
         return Ok(at_first(alloc, path));
     };
-    let left = match step {
+    match step {
         Step::Make {
             path: at,
             entry,
             ..
-        } => made(at, entry, path, left_at(alloc, before, path)?)?,
-        Step::SyncFile(at) => synced(at, path, left_at(alloc, before, path)?),
+        } => Ok(made(at, entry, path, left_at(alloc, before, path)?)?),
+        Step::SyncFile(at) => Ok(synced(at, path, left_at(alloc, before, path)?)),
         Step::SyncDirectory(at) => {
-            let counts = left_at(alloc, before, at)?.older.is_empty()
-                && is_inside(alloc, at, path)?;
-            named(alloc, counts, left_at(alloc, before, path)?)
+            let directory = left_at(alloc, before, at)?;
+            let left = left_at(alloc, before, path)?;
+            Ok(directory_synced(alloc, at, path, &directory, left)?)
         }
         Step::Rename { from, to } => {
-            let left = removed(from, path, left_at(alloc, before, path)?)?;
-            if to == path {
-                newer(left_at(alloc, before, from)?.now, left)?
-            } else {
-                left
-            }
+            let source = left_at(alloc, before, from)?;
+            let left = left_at(alloc, before, path)?;
+            Ok(renamed(from, to, path, source, left)?)
         }
         Step::RenameDirectory { from, to } => {
             let root = RelPath::root(alloc);
-            let counts = left_at(alloc, before, &root)?.older.is_empty()
-                && is_inside(alloc, &root, path)?;
-            let left = match before_rename(alloc, from, to, path)? {
-                Some(origin) => left_at(alloc, before, &origin)?,
-                None => always(alloc, Held::nothing()),
+            let directory = left_at(alloc, before, &root)?;
+            let Some(origin) = before_rename(alloc, from, to, path)? else {
+                let left = always(alloc, Held::nothing());
+                return Ok(directory_synced(alloc, &root, path, &directory, left)?);
             };
-            named(alloc, counts, left)
+            let left = left_at(alloc, before, &origin)?;
+            Ok(directory_synced(alloc, &root, path, &directory, left)?)
         }
-        Step::RemoveFile(at) | Step::RemoveDirectory(at) => {
-            removed(at, path, left_at(alloc, before, path)?)?
-        }
-    };
-    Ok(left)
+        Step::RemoveFile(at) => Ok(removed(at, path, left_at(alloc, before, path)?)?),
+        Step::RemoveDirectory(at) => Ok(removed(at, path, left_at(alloc, before, path)?)?),
+    }
 }

@@ -4,7 +4,7 @@ ghost use Rattle.svn_types.specs.Paths.{parent};
 ghost use Rattle.svn_folder.specs.Entries.{has_file, has_leaf, has_directory};
 ghost use Rattle.svn_folder.specs.States.{State, seen, empty, nothing, fresh};
 ghost use Rattle.svn_folder.specs.Steps.{put, run, fits, new_name, IsFree, IsEmpty};
-ghost use Rattle.svn_folder.specs.Memory.{origin_in, IsOrigin, IsFreeUnder, Decides, steps_of, state_of};
+ghost use Rattle.svn_folder.specs.Memory.{origin_in, IsOrigin, IsFreeUnder, Decides, IsPlace, steps_of, state_of};
 ghost use Rattle.svn_folder.specs.Pasts.{Known, Takes, IsRefused};
 
 use crate::entry::Entry;
@@ -158,7 +158,9 @@ impl MemoryFolder {
     }
 
     /// What a crash may leave at a path, if each directory on the way to it is there. The error is that of an allocation that fails.
-    pub fn left_at(&self, path: &RelPath) -> Result<Left, PathFault> {
+    pub fn left_at(&self, path: &RelPath) -> Result<Left, PathFault>
+        ensures { IfOk result (IsPlace (state_of self.now path.now)) }
+    {
         left_at(self.alloc, &self.steps, path)
     }
 

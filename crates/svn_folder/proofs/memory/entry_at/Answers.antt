@@ -1,4 +1,4 @@
-use Rattle.std.proofs.Common.{◌≡◌, List, [], length, sym, ◌∙◌, ap, true≢false}
+use Rattle.std.proofs.Common.{List, sym, ◌∙◌, ap, true≢false}
 use Rattle.svn_folder.specs.declared.step.Step.{Step}
 use Rattle.svn_folder.specs.declared.memory.Origin.{Origin}
 use Rattle.svn_folder.specs.States.{seen, empty}
