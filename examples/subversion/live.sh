@@ -12,9 +12,10 @@ needs svnserve sqlite3 python3
 needs_built svnaudit
 mkfifo to from
 
-# serve [OPTION..]: a server at the other ends of the pipes
-serve() { svnserve -t "$@" <to >from 2>served & server=$!; }
-served() { [ -z "$server" ] || { kill $server; wait $server; } 2>/dev/null; }
+# serve [OPTION..]: a server at the other ends of the pipes, in place of the one before
+serve() { served; svnserve -t "$@" <to >from 2>served & server=$!; }
+served() { [ -z "$server" ] || { kill $server; wait $server; } 2>/dev/null; server=; }
+server=
 
 # live WORD..: what a server makes of the copies, in `got`, `notes` and $status
 live() {
@@ -118,24 +119,13 @@ serve --root "$room"; timeout 300 "$SVNAUDIT" live to from plain whole changed -
 same "a URL" wanted got
 
 echo "== refusals"
-# refused WHAT LINE COMMAND..: refused by one line, with status 2, and nothing on standard output
-refused() {
-    local what=$1 line=$2 status
-    shift 2
-    "$@" >out 2>got
-    status=$?
-    served
-    printf '%s\n' "$line" >wanted
-    same "$what" wanted got
-    [ $status = 2 ] && [ ! -s out ] || { wrong=$((wrong + 1)); echo "$what: STATUS $status, or something is printed"; }
-}
 serve; refused 'another repository' "svnaudit: from: the server has another repository" timeout 300 "$SVNAUDIT" live to from plain --url "svn://$room/lost_row.repo"
 serve; refused 'no repository' "svnaudit: from: the server failed with E210005: No repository found in 'svn:///nowhere'" timeout 300 "$SVNAUDIT" live to from plain --url "svn:///nowhere"
-(exec 3<to 4>from) & server=$!
+served; (exec 3<to 4>from) & server=$!
 refused 'a server that says nothing' "svnaudit: from: the answers end before all questions are answered" timeout 300 "$SVNAUDIT" live to from plain
-(exec 3<to 4>from; echo 'Welcome to this host' >&4; sleep 1) & server=$!
+served; (exec 3<to 4>from; echo 'Welcome to this host' >&4; sleep 1) & server=$!
 refused 'a server that says something else' "svnaudit: from: an item that is no answer" timeout 300 "$SVNAUDIT" live to from plain
-server=
+served
 refused 'no copy' "svnaudit: nowhere: No such file or directory (os error 2)" timeout 300 "$SVNAUDIT" live to from nowhere
 live plain lost_row
 printf '%s\n' "svnaudit: lost_row: the working copy is of repository $(svnlook uuid lost_row.repo), not of $(svnlook uuid repo)" >wanted

@@ -4,6 +4,7 @@
 #   needs_built NAME..      the same of programs of this repository: crates/NAME/out/NAME, as `tools/prove NAME` builds it, or the program that the variable of
 #                           its name in capitals names (SVNUP, SVNAUDIT); afterwards that variable names the program
 #   same WHAT WANTED GOT    whether two files are the same; `compared` and `wrong` count
+#   refused WHAT LINE COMMAND..   whether it is refused by that one line, with status 2, and nothing on standard output
 #   end                     says how many there were, and ends the script, with status 1 where something is wrong
 set -u
 export LC_ALL=C.UTF-8
@@ -35,6 +36,16 @@ same() {
     wrong=$((wrong + 1))
     echo "$1 DIFFERS:"
     diff "$2" "$3" | head -6 | sed 's/^/    /'
+}
+
+refused() {
+    local what=$1 line=$2 status
+    shift 2
+    "$@" >out 2>got
+    status=$?
+    printf '%s\n' "$line" >wanted
+    same "$what" wanted got
+    [ $status = 2 ] && [ ! -s out ] || { wrong=$((wrong + 1)); echo "$what: STATUS $status, or something is printed"; }
 }
 
 end() { echo "$compared compared, $wrong wrong"; exit $((wrong != 0)); }

@@ -136,16 +136,6 @@ for name in $false_copies; do
 done
 
 echo "== refusals"
-# refused WHAT LINE COMMAND..: refused by one line, with status 2, and nothing on standard output
-refused() {
-    local what=$1 line=$2 status
-    shift 2
-    "$@" >out 2>got
-    status=$?
-    printf '%s\n' "$line" >wanted
-    same "$what" wanted got
-    [ $status = 2 ] && [ ! -s out ] || { wrong=$((wrong + 1)); echo "$what: STATUS $status, or something is printed"; }
-}
 refused 'no copy' "svnaudit: repo: no working copy" "$SVNAUDIT" check dump repo
 refused 'no folder' "svnaudit: nowhere: No such file or directory (os error 2)" "$SVNAUDIT" check dump nowhere
 refused 'another repository' "svnaudit: lost_row: the working copy is of repository $(svnlook uuid lost_row.repo), not of $(svnlook uuid repo)" "$SVNAUDIT" check dump lost_row

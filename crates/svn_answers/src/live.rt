@@ -2,6 +2,8 @@
 ghost use Rattle.std.specs.Prelude.{◌≡◌, ℕ, List, map, None, option_map, unwrap_or, IfOk, IfErr, OnOk};
 ghost use Rattle.std.specs.Io.KnownBytes.{Appends};
 ghost use Rattle.std.specs.Option.{option_copied};
+ghost use Rattle.svn_live_audit.specs.declared.fault.LiveFault.TheVariants.{Memory};
+ghost use Rattle.svn_answers.specs.declared.live.LiveAnswerFault.TheVariants as faults;
 ghost use Rattle.svn_answers.specs.Answers.{Answer, answer_text, notices_of, verdict_of};
 ghost use Rattle.svn_answers.specs.LiveAnswers.{AsksAbout, IsConnected, IsLiveAnswer, IsLiveCopy, IsLiveCopyFault, IsNewLine, LiveChecks};
 ghost use Rattle.svn_answers.specs.LiveUrls.{server_url};
@@ -34,7 +36,7 @@ pub trait Server {
     /// Takes what is sent to it.
     type Output: Write + Drop;
 
-    /// Connects it. It is asked once at most.
+    /// Connects it: for the first copy that is read, and for the next one after a fault of the server.
     fn connect(&mut self) -> Result<(Self::Input, Self::Output), Self::Fault>;
 }
 
@@ -50,6 +52,8 @@ pub enum LiveAnswerFault<F> {
 }
 
 impl<F> From<AllocError> for LiveAnswerFault<F> {
+    ghost from_gives = { λ _ e. e ≡ faults.Server Memory };
+
     fn from(_error: AllocError) -> LiveAnswerFault<F> {
         LiveAnswerFault::Server(LiveFault::Memory)
     }
@@ -213,7 +217,8 @@ impl<'a, C: Copies, S: Server + Drop> Live<'a, C, S> {
 
     /// Answers whether the copies that words name are true of what the server says: writes the lines of each that is audited, in the order of the words, and
     /// returns the worst of all verdicts. A copy that is refused, also for the repository that it is of, doesn't keep the others from their answer: why, and
-    /// what was passed over of a copy, is heard in the order of the words. A fault of the server ends it, and what was written of the copies before stays.
+    /// what was passed over of a copy, is heard in the order of the words. Connect, Server and Write end it, and what was written and heard of the copies before
+    /// stays. After Server the connection is given up: the next copy that is asked about is the first of another one.
     pub fn check<O: Write, N: Notices<C::Fault>, L: LiveListener>(
         &mut self,
         names: &[&str],

@@ -22,7 +22,8 @@ const WRITE: u32 = 0o222;
 
 const EXECUTE: u32 = 0o111;
 
-/// A folder of the system. Each step is the calls that it names, and a look before it at what the system wouldn't refuse.
+/// A folder of the system. Each step is the calls that it names, and a look before it at what the system wouldn't refuse. What the system refuses is
+/// `Failed`, with its error, also where the step doesn't fit.
 ///
 /// No contract says what the system does. That it keeps `specs/Crashes.antt`, that a rename is atomic, and that nobody else changes what is in the
 /// folder between a look and a step, is trusted.

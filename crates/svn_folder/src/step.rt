@@ -15,7 +15,7 @@ pub enum Step {
         path: RelPath,
         /// The entry: a file with all its bytes, an empty directory or a link.
         entry: Entry,
-        /// When a file was modified, in microseconds since 1970, if that is to be said. What a folder shows has no times.
+        /// The time that a file gets, in microseconds since 1970; by default that of the step. What a folder shows has no times.
         modified: Option<u64>,
     },
     /// Brings the bytes of a file to the disk. Its name is another matter.

@@ -20,7 +20,7 @@ pub enum ImageFault {
     /// The file would have more pages than SQLite allows, 4,294,967,294.
     #[error("more pages than a database may have")]
     TooLarge,
-    /// A page has no room for what is to be in it. As the next three, this is a fault of this crate, and no input is known that brings it about.
+    /// A page has no room for what is to be in it. As the next three, this is a fault of this crate, and no input that causes it is known.
     #[error("a page has no room")]
     NoRoom,
     /// The header that was written isn't read back.
