@@ -8,8 +8,8 @@ use thiserror::Error;
 /// Why a record or a database isn't written. A number is the place of an item in [`Database::items`](crate::Database::items), counted from 0.
 #[derive(Clone, Copy, Debug, PartialEq, Eq, Error)]
 pub enum ImageFault {
-    /// A value is a NaN, or the record has over a billion bytes.
-    #[error("a value that no record can hold")]
+    /// There are no values or too many, one is a NaN, or the record has over a billion bytes.
+    #[error("values that no record can hold")]
     Unstorable,
     /// The rowids of a table, or the records of an index, don't ascend.
     #[error("the rows of item {0} don't ascend")]

@@ -23,7 +23,8 @@ fn row_of(alloc: Global, values: &[ValueRef<'_>]) -> Result<Row, AllocError>
     Ok(row)
 }
 
-/// The record of these values: each integer in as few bytes as it takes. Unstorable if one is a NaN or all are over a billion bytes; Memory.
+/// The record of these values: each integer in as few bytes as it takes. Unstorable only where there is none or there are too many, one is a
+/// NaN, or all are over a billion bytes; Memory.
 pub fn record(alloc: Global, values: &[ValueRef<'_>]) -> Result<Text, ImageFault>
     ensures value { IfOk result (λ bytes. decode bytes ≡ map owned values.now) }
     ensures refused { IfErr result (IsNoRecord (map owned values.now)) }
