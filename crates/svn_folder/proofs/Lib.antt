@@ -2,6 +2,10 @@
 pub mod Showing
 -- what a crash leaves of names that are on the disk
 pub mod Firm
+-- steps that are apart from a path
+pub mod Apart
+-- steps one after the other
+pub mod Runs
 -- what is in a directory: only names that a step has made
 mod Made
 -- refusals that change nothing

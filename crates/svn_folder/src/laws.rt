@@ -1,5 +1,12 @@
 //! What callers rest on, as the contracts of functions with nothing in them.
-ghost use Rattle.svn_folder.specs.Laws.{a_file_is_replaced_at_once, what_is_shown_may_be_left, what_is_synced_stays};
+ghost use Rattle.svn_folder.specs.Laws.{
+  a_file_is_replaced_at_once,
+  steps_apart_change_nothing,
+  steps_are_joined,
+  what_is_shown_may_be_left,
+  what_is_synced_stays,
+  what_is_synced_stays_meanwhile,
+};
 
 /// A crash may leave what is shown, and does if it is the program alone that stops.
 pub fn what_is_shown_may_be_left()
@@ -15,4 +22,19 @@ pub fn what_is_synced_stays()
 /// the directory the new one.
 pub fn a_file_is_replaced_at_once()
     ensures { a_file_is_replaced_at_once }
+{}
+
+/// Steps that make, put, rename or remove nothing at a path, nor at a directory above it, leave what is shown there.
+pub fn steps_apart_change_nothing()
+    ensures { steps_apart_change_nothing }
+{}
+
+/// What is on the disk, with each name on the way to it, is there after a crash at any moment of such steps, and is on the disk after them.
+pub fn what_is_synced_stays_meanwhile()
+    ensures { what_is_synced_stays_meanwhile }
+{}
+
+/// A crash at a moment of some steps and more is one during the former or during the latter, and the other way round.
+pub fn steps_are_joined()
+    ensures { steps_are_joined }
 {}

@@ -20,8 +20,9 @@
 //! Promises: a step that is taken fitted, and is the next of those that the folder has taken; one that is refused changed nothing; after one that the
 //! system failed at, nothing more is promised than what a crash may leave (`Takes`). What is shown is what these steps leave (`Shows`). A folder in
 //! memory refuses a step only if it doesn't fit (`refused`). One that has stopped stays as it was (`stopped`). Of a folder of the system no contract
-//! speaks (`disk.rt` says what is trusted). The laws, which callers use, are in `laws`: what is on the disk with all of its way stays there, and a
-//! synced file takes the place of another at once.
+//! speaks (`disk.rt` says what is trusted). The laws, which callers use, are in `laws`: what is on the disk with all of its way stays there, also
+//! while steps are taken that are apart from it; a synced file takes the place of another at once; a crash during some steps and more is one during
+//! either.
 //!
 //! The tests are in `test_folder`.
 #![tactic(auto)]
@@ -42,7 +43,10 @@ pub use entry::{Entry, Mode};
 pub use fault::{FolderFault, Misfit};
 pub use folder::Folder;
 pub use held::{Held, Left};
-pub use laws::{a_file_is_replaced_at_once, what_is_shown_may_be_left, what_is_synced_stays};
+pub use laws::{
+    a_file_is_replaced_at_once, steps_apart_change_nothing, steps_are_joined,
+    what_is_shown_may_be_left, what_is_synced_stays, what_is_synced_stays_meanwhile,
+};
 pub use memory::MemoryFolder;
 pub use step::Step;
 pub use stopped::StoppedFolder;
