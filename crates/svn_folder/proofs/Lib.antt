@@ -6,6 +6,15 @@ pub mod Firm
 pub mod Apart
 -- steps one after the other
 pub mod Runs
+-- marks at what isn't on the disk yet
+pub mod Marked
+mod Named
+-- the same, as a program keeps them
+mod Unsyncing
+-- marks, when a step is taken or refused
+mod Taking
+-- once all is on the disk
+pub mod Settled
 -- what is in a directory: only names that a step has made
 mod Made
 -- refusals that change nothing

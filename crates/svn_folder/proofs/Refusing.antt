@@ -6,6 +6,6 @@ use Rattle.svn_folder.specs.declared.fault.FolderFault.{FolderFault}
 use Rattle.svn_folder.specs.Pasts.{Past, Unknown, Known, Broken, Takes}
 
 pub refuses : (step : Step) (past : Past) (fault : FolderFault) → Takes step past (Err fault) past
-refuses step Unknown fault = tt
+refuses step Unknown fault = refl
 refuses step (Known s steps) fault = inl refl
-refuses step (Broken s steps) fault = tt
+refuses step (Broken s steps) fault = refl

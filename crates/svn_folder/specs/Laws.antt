@@ -1,12 +1,13 @@
 -- What a crash can't undo, that a file takes the place of another at once, and what steps elsewhere leave alone: what a step of an update rests on.
-use Rattle.std.specs.Prelude.{◌≡◌, ◌↔◌, ◌⊎◌, Bool, true, false, ◌&&◌, not, List, [], ◌∷◌, ◌++◌, ⊤}
+use Rattle.std.specs.Prelude.{◌≡◌, ◌↔◌, ◌⊎◌, Bool, true, false, ◌&&◌, not, List, [], ◌∷◌, ◌++◌, is_some, ⊤}
 use Rattle.svn_types.specs.Names.{Path}
 use Rattle.svn_types.specs.Paths.{is_within, is_root, parent, child}
 use Rattle.svn_folder.specs.declared.step.Step.{Step}
 use Rattle.svn_folder.specs.declared.step.Step.TheVariants.{Make, SyncFile, SyncDirectory, Rename, RenameDirectory, RemoveFile, RemoveDirectory}
 use Rattle.svn_folder.specs.Entries.{has_directory}
-use Rattle.svn_folder.specs.States.{Seen, Place, State, seen}
+use Rattle.svn_folder.specs.States.{Seen, Place, State, seen, empty}
 use Rattle.svn_folder.specs.Steps.{is_none_older, run}
+use Rattle.svn_folder.specs.Syncing.{IsSynced}
 use Rattle.svn_folder.specs.Crashes.{MayLeave, RunMayLeave, shown}
 
 -- the bytes and the name are on the disk
@@ -84,3 +85,16 @@ steps_are_joined =
     (s : State) (steps more : List Step)
     → (run s (steps ++ more) ≡ run (run s steps) more)
     × ((left : Seen) → RunMayLeave s (steps ++ more) left ↔ RunMayLeave s steps left ⊎ RunMayLeave (run s steps) more left)
+
+-- ---- all of it
+
+-- Once all is on the disk a crash leaves what is shown, and what is there is on the disk with all of its way.
+abbrev pub a_synced_folder_stays : Type 0
+a_synced_folder_stays =
+    (s : State) → IsSynced s
+    → ((left : Seen) → MayLeave s left → (p : Path) → left p ≡ seen s p)
+    × ((p : Path) → is_some (seen s p) ≡ true → IsOnDisk s p)
+
+-- An empty folder is all on the disk.
+abbrev pub an_empty_folder_is_synced : Type 0
+an_empty_folder_is_synced = IsSynced empty

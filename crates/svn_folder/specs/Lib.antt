@@ -4,4 +4,6 @@ pub mod Steps
 pub mod Crashes
 pub mod Pasts
 pub mod Memory
+pub mod Syncing
+pub mod Marking
 pub mod Laws

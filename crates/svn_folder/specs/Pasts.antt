@@ -3,7 +3,7 @@
 --     Shows past p e      it shows this at a path
 --     moment past      a moment, as a number that grows: how many steps were taken
 --     LeftSince past t left      a crash at a moment from that one on might have left this
-use Rattle.std.specs.Prelude.{◌≡◌, ◌⊎◌, ℕ, List, [], ◌∷◌, ◌++◌, length, take, drop, Option, Result, Ok, Err, ⊤}
+use Rattle.std.specs.Prelude.{◌≡◌, ◌⊎◌, ℕ, Bool, true, false, List, [], ◌∷◌, ◌++◌, length, take, drop, Option, Result, Ok, Err, ⊤}
 use Rattle.svn_types.specs.Names.{Path}
 use Rattle.svn_folder.specs.declared.entry.Entry.{Entry}
 use Rattle.svn_folder.specs.declared.step.Step.{Step}
@@ -40,13 +40,19 @@ IsRefused (Err Stopped) = ⊥
 IsRefused (Err (fault.Path f)) = ⊥
 IsRefused (Err Memory) = ⊥
 
+-- each step is known, and that it was taken
+abbrev pub is_known : Past → Bool
+is_known Unknown = false
+is_known (Known s steps) = true
+is_known (Broken s steps) = false
+
 -- A step that was taken fitted, and is one of those taken from then on. One that wasn't changed nothing, unless the system failed: then it
--- is the last of which anything is known.
+-- is the last of which anything is known. What isn't known stays so.
 abbrev pub Takes : Step → Past → Result (Unit {0}) FolderFault → Past → Type 0
-Takes step Unknown result new = ⊤
+Takes step Unknown result new = is_known new ≡ false
 Takes step (Known s steps) (Ok done) new = fits step (run s steps) × (new ≡ Known s (steps ++ step ∷ []))
 Takes step (Known s steps) (Err f) new = (new ≡ Known s steps) ⊎ (IsFailure f × (new ≡ Broken s (steps ++ step ∷ [])))
-Takes step (Broken s steps) result new = ⊤
+Takes step (Broken s steps) result new = is_known new ≡ false
 
 abbrev pub Shows : Past → Path → Option Entry → Type 0
 Shows Unknown p e = ⊤

@@ -1,6 +1,8 @@
 //! What callers rest on, as the contracts of functions with nothing in them.
 ghost use Rattle.svn_folder.specs.Laws.{
   a_file_is_replaced_at_once,
+  a_synced_folder_stays,
+  an_empty_folder_is_synced,
   steps_apart_change_nothing,
   steps_are_joined,
   what_is_shown_may_be_left,
@@ -37,4 +39,14 @@ pub fn what_is_synced_stays_meanwhile()
 /// A crash at a moment of some steps and more is one during the former or during the latter, and the other way round.
 pub fn steps_are_joined()
     ensures { steps_are_joined }
+{}
+
+/// Once all of a folder is on the disk a crash leaves what it shows, and what is there is on the disk with each name on the way to it.
+pub fn a_synced_folder_stays()
+    ensures { a_synced_folder_stays }
+{}
+
+/// An empty folder is all on the disk.
+pub fn an_empty_folder_is_synced()
+    ensures { an_empty_folder_is_synced }
 {}

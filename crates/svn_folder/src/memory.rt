@@ -6,6 +6,7 @@ ghost use Rattle.svn_folder.specs.States.{State, seen, empty, nothing, fresh};
 ghost use Rattle.svn_folder.specs.Steps.{put, run, fits, new_name, IsFree, IsEmpty};
 ghost use Rattle.svn_folder.specs.Memory.{origin_in, IsOrigin, IsFreeUnder, Decides, IsPlace, steps_of, state_of};
 ghost use Rattle.svn_folder.specs.Pasts.{Known, Takes, IsRefused};
+ghost use Rattle.svn_folder.specs.Syncing.{IsSyncedPast};
 
 use crate::entry::Entry;
 use crate::fault::{FolderFault, Misfit};
@@ -142,7 +143,8 @@ pub struct MemoryFolder {
 impl MemoryFolder {
     /// A folder with nothing in it.
     pub fn new(alloc: Global) -> MemoryFolder
-        ensures { steps_of result ≡ [] }
+        ensures steps { steps_of result ≡ [] }
+        ensures synced { IsSyncedPast (Known empty (steps_of result)) }
     {
         MemoryFolder {
             alloc,

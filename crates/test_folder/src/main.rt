@@ -1,4 +1,5 @@
-//! Folders: each step and each refusal in memory and on disk, a folder that stops after each number of steps, and what a crash may leave.
+//! Folders: each step and each refusal in memory and on disk, a folder that stops after each number of steps, what a crash may leave, and whether all
+//! is on the disk.
 #![tactic(auto)]
 
 mod tables;
@@ -7,9 +8,11 @@ use anyhow::{Result, bail};
 use std::alloc::Global;
 use std::path::PathBuf;
 use std::rt::Files;
-use svn_folder::{DiskFolder, Entry, Folder, FolderFault, Held, MemoryFolder, StoppedFolder};
+use svn_folder::{
+    DiskFolder, Entry, Folder, FolderFault, Held, MemoryFolder, StoppedFolder, SyncedFolder,
+};
 use svn_types::RelPath;
-use tables::{ACTS, Act, CARELESS, MOVED, PATHS, REPLACED, step_of};
+use tables::{ACTS, Act, CARELESS, LOST, MOVED, PATHS, REPLACED, SYNCED, step_of};
 
 // The folder of the system that is tried, where the program runs.
 const TRIED: &str = "tried_folder";
@@ -71,7 +74,7 @@ fn tried<R: Files + AllocGlobal>(rt: &R) -> Result<DiskFolder<'_, R>> {
 
 fn try_both<R: Files + Print + AllocGlobal>(rt: &R) -> Result<()> {
     let mut memory = MemoryFolder::new(rt.alloc());
-    let mut disk = tried(rt)?;
+    let mut disk = SyncedFolder::new(rt.alloc(), tried(rt)?);
     for act in ACTS {
         take_both(rt, &mut memory, &mut disk, act)?;
     }
@@ -151,6 +154,30 @@ fn crash_in<R: Print + AllocGlobal>(rt: &R, acts: &[Act], paths: (&str, &str)) -
     Ok(())
 }
 
+// Takes the next step, and prints whether everything is on the disk afterwards.
+fn keep<R: Print + AllocGlobal, F: Folder>(
+    rt: &R,
+    folder: &mut SyncedFolder<F>,
+    act: Act,
+) -> Result<()> {
+    let (_, words) = told(rt.alloc(), folder, act)?;
+    let state = if folder.is_synced() {
+        "synced"
+    } else {
+        "not synced"
+    };
+    println!(rt; "{words}: {state}")?;
+    Ok(())
+}
+
+fn keep_in<R: Print + AllocGlobal>(rt: &R, acts: &[Act]) -> Result<()> {
+    let mut folder = SyncedFolder::new(rt.alloc(), MemoryFolder::new(rt.alloc()));
+    for act in acts {
+        keep(rt, &mut folder, *act)?;
+    }
+    Ok(())
+}
+
 fn main(rt: HostRuntime) -> Result<()> {
     try_both(&rt)?;
     for limit in 0..=6 {
@@ -159,5 +186,7 @@ fn main(rt: HostRuntime) -> Result<()> {
     crash_in(&rt, &REPLACED, ("f", "t"))?;
     crash_in(&rt, &CARELESS, ("f", "t"))?;
     crash_in(&rt, &MOVED, ("f/x", "t/x"))?;
+    keep_in(&rt, &SYNCED)?;
+    keep_in(&rt, &LOST)?;
     Ok(())
 }

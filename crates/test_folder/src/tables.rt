@@ -92,6 +92,40 @@ pub(crate) const MOVED: [Act; 5] = [
     Act::RemoveFile("f/x"),
 ];
 
+/// Names and bytes that are synced, some too early, and a directory that is renamed once all is on the disk, and before.
+pub(crate) const SYNCED: [Act; 21] = [
+    Act::Directory("a"),
+    Act::File("a/f", "text"),
+    Act::SyncFile("a/f"),
+    Act::SyncDirectory("a"),
+    Act::SyncDirectory(""),
+    Act::SyncDirectory("a"),
+    Act::RenameDirectory("a", "b"),
+    Act::Link("b/l", "f"),
+    Act::Rename("b/l", "l"),
+    Act::SyncDirectory("b"),
+    Act::SyncDirectory(""),
+    Act::SyncDirectory("b"),
+    Act::File("g", "new"),
+    Act::Rename("g", "b/f"),
+    Act::SyncDirectory(""),
+    Act::SyncDirectory("b"),
+    Act::SyncFile("b/f"),
+    Act::RemoveFile("b/f"),
+    Act::RemoveDirectory("b"),
+    Act::SyncDirectory(""),
+    Act::Directory("l"),
+];
+
+/// A directory is renamed before what is in it is on the disk.
+pub(crate) const LOST: [Act; 5] = [
+    Act::Directory("t"),
+    Act::SyncDirectory("t"),
+    Act::RenameDirectory("t", "f"),
+    Act::SyncDirectory("f"),
+    Act::SyncDirectory(""),
+];
+
 fn make(path: RelPath, entry: Entry) -> Step {
     Step::Make {
         path,

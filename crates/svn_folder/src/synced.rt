@@ -1,0 +1,65 @@
+//! A folder that knows whether all of it is on the disk.
+ghost use Rattle.std.specs.Prelude.{◌≡◌, IsTrue};
+ghost use Rattle.svn_folder.specs.Syncing.{AreMarksOf, IsSyncedPast};
+ghost use Rattle.svn_folder.specs.Marking.{marks_of};
+
+use crate::entry::Entry;
+use crate::fault::FolderFault;
+use crate::folder::Folder;
+use crate::step::Step;
+use crate::unsynced::Unsynced;
+use std::alloc::Global;
+use svn_types::RelPath;
+
+/// A folder that passes each step to another one, and keeps at which paths something may not be on the disk yet: the bytes of files, and names in
+/// directories. A directory that is renamed before everything else is on the disk is followed no more.
+#[derive(Drop)]
+pub struct SyncedFolder<F: Folder> {
+    /// The folder, which takes the steps.
+    pub folder: F,
+    unsynced: Unsynced,
+    ghost marks: { AreMarksOf (F.past folder) (marks_of unsynced) },
+}
+
+impl<F: Folder> SyncedFolder<F> {
+    /// A folder all of which is on the disk, as an empty one is.
+    pub fn new(alloc: Global, folder: F) -> SyncedFolder<F>
+        requires { IsSyncedPast (F.past folder) }
+        ensures { result.folder ≡ folder }
+    {
+        SyncedFolder {
+            folder,
+            unsynced: Unsynced::nothing(alloc),
+        }
+    }
+
+    /// Whether all of it is on the disk: each file that was made or put somewhere was synced, and each directory after the last change of a name in
+    /// it, those above it first. Then a crash leaves what the folder shows. After a failure of the system it is never true.
+    pub fn is_synced(&self) -> bool
+        ensures { IsTrue result → IsSyncedPast (F.past self.now.folder) }
+    {
+        self.unsynced.is_nothing()
+    }
+}
+
+impl<F: Folder> Folder for SyncedFolder<F> {
+    ghost past = { λ s. F.past s.folder };
+
+    fn take(&mut self, step: Step) -> Result<(), FolderFault> {
+        let done = self.unsynced.begin(&step)?;
+        match self.folder.take(step) {
+            Ok(()) => {
+                self.unsynced.finish(&done);
+                Ok(())
+            }
+            Err(fault) => {
+                self.unsynced.give_up(&fault);
+                Err(fault)
+            }
+        }
+    }
+
+    fn look(&self, alloc: Global, path: &RelPath) -> Result<Option<Entry>, FolderFault> {
+        self.folder.look(alloc, path)
+    }
+}
