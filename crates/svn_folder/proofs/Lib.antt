@@ -7,7 +7,7 @@ pub mod Apart
 -- steps one after the other
 pub mod Runs
 -- marks at what isn't on the disk yet
-pub mod Marked
+mod Marked
 mod Named
 -- the same, as a program keeps them
 mod Unsyncing
@@ -17,6 +17,8 @@ mod Taking
 pub mod Settled
 -- what is in a directory: only names that a step has made
 mod Made
+-- the names in a directory
+mod Listed
 -- refusals that change nothing
 mod Refusing
 -- paths that were made, if they were

@@ -1,6 +1,7 @@
 -- In a directory there are only names that a step has made: so to see whether it is empty these are looked at.
-use Rattle.std.proofs.Common.{◌≡◌, Bool, true, false, ◌⊎◌, inl, inr, ⊎_elim, List, [], ◌∷◌, refl, sym, ◌∙◌, ap, subst, true≢false}
+use Rattle.std.proofs.Common.{◌≡◌, Bool, true, false, ◌||◌, ◌⊎◌, inl, inr, ⊎_elim, List, [], ◌∷◌, refl, sym, ◌∙◌, ap, subst, true≢false}
 use Rattle.std.specs.Prelude.{bytes_eq, None, ⊤}
+use Rattle.std.proofs.lemmas.Bool.{or_parts}
 use Rattle.svn_types.specs.Names.{Path}
 use Rattle.svn_types.specs.Paths.{path_eq, child, last_name}
 use Rattle.svn_types.proofs.NameLemmas.{Name}
@@ -9,7 +10,7 @@ use Rattle.svn_folder.specs.declared.step.Step.{Step}
 use Rattle.svn_folder.specs.declared.step.Step.TheVariants.{Make, SyncFile, SyncDirectory, Rename, RenameDirectory, RemoveFile, RemoveDirectory}
 use Rattle.svn_folder.specs.States.{Held, State, seen, nothing, fresh, empty}
 use Rattle.svn_folder.specs.Steps.{put, after, run, new_name, IsEmpty}
-use Rattle.svn_folder.specs.Memory.{IsFreeUnder, IsClear}
+use Rattle.svn_folder.specs.Memory.{IsFreeUnder, IsClear, is_made}
 use Rattle.svn_folder.proofs.Showing.{put_here, put_elsewhere, sync_file-shown, sync_directory-shown, move_away, move_here, move_elsewhere}
 
 -- nothing has this name, in any directory
@@ -90,3 +91,12 @@ free_if_empty s p (n ∷ q) none = none n
 pub clear_if_empty : (steps : List Step) (s : State) (p : Path) → IsEmpty s p → IsClear s p steps
 clear_if_empty [] s p none = tt
 clear_if_empty (step ∷ steps) s p none = (free_if_empty s p (new_name step) none, clear_if_empty steps s p none)
+
+unmade : (steps : List Step) (name : Name) → is_made steps name ≡ false → IsUnmade steps name
+unmade [] name h = tt
+unmade (step ∷ steps) name h =
+    let parts = or_parts (path_eq (new_name step) (name ∷ [])) (is_made steps name) h in (parts.0, unmade steps name parts.1)
+
+-- nothing has a name that no step has made
+pub unmade_unseen : (steps : List Step) (p : Path) (name : Name) → is_made steps name ≡ false → seen (run empty steps) (child p name) ≡ None
+unmade_unseen steps p name h = unused_run name steps empty (unmade steps name h) (unused_empty name) p

@@ -1,6 +1,6 @@
 -- Once all of a folder is on the disk a crash leaves what it shows.
 use Rattle.std.proofs.Common.{◌≡◌, Bool, true, false, ◌&&◌, [], ◌∷◌, ◌++◌, refl, sym, ◌∙◌, ap, true≢false, append_assoc, append-nil}
-use Rattle.std.specs.Prelude.{cond, None, is_some}
+use Rattle.std.specs.Prelude.{cond, None, is_some, ⊤}
 use Rattle.svn_types.specs.Names.{Path}
 use Rattle.svn_types.specs.Paths.{parent, child}
 use Rattle.svn_types.proofs.NameLemmas.{Name}
@@ -12,7 +12,7 @@ use Rattle.svn_folder.specs.Crashes.{MayLeave, shown_below}
 use Rattle.svn_folder.specs.Laws.{is_firm, is_way_below, IsOnDisk}
 use Rattle.svn_folder.specs.Syncing.{IsSynced, no_marks}
 use Rattle.svn_folder.proofs.Firm.{firm_left}
-use Rattle.svn_folder.proofs.Marked.{root_named, none_inside}
+use Rattle.svn_folder.proofs.Marked.{directory_some, root_named, none_inside}
 
 module _ (s : State) (on : IsSynced s) where
   firm_root : is_firm (s []) ≡ true
@@ -59,23 +59,39 @@ module _ (s : State) (on : IsSynced s) where
       by true e = refl
       by false e = absurd (true≢false (sym h ∙ ap is_some (none_below above name p e)))
 
-  way_there : (above p : Path) → is_firm (s above) ≡ true → is_some (seen s (above ++ p)) ≡ true → is_way_below s above p ≡ true
+  -- a path is that of the first directory, or is in a directory
+  abbrev IsInDirectory : Path → Path → Type 0
+  IsInDirectory above [] = ⊤
+  IsInDirectory above (n ∷ p) = has_directory (seen s (above ++ parent (n ∷ p))) ≡ true
+
+  directory_first : (above : Path) (n : Name) (p : Path) → IsInDirectory above (n ∷ p) → has_directory (seen s above) ≡ true
+  directory_first above n [] h = ap (λ (r : Path). has_directory (seen s r)) (sym (append-nil above)) ∙ h
+  directory_first above n (k ∷ p) h = directory_above above n (parent (k ∷ p)) (directory_some (seen s (above ++ n ∷ parent (k ∷ p))) h)
+
+  directory_rest : (above : Path) (n : Name) (p : Path) → IsInDirectory above (n ∷ p) → IsInDirectory (child above n) p
+  directory_rest above n [] h = tt
+  directory_rest above n (k ∷ p) h = ap (λ (r : Path). has_directory (seen s r)) (append_assoc above (n ∷ []) (parent (k ∷ p))) ∙ h
+
+  way_there : (above p : Path) → is_firm (s above) ≡ true → IsInDirectory above p → is_way_below s above p ≡ true
   way_there above [] firm h = refl
   way_there above (n ∷ p) firm h =
-      let directory = directory_above above n p h in
+      let directory = directory_first above n p h in
       ap (λ b. b && has_directory (seen s above) && is_way_below s (child above n) p) firm
       ∙ ap (λ b. b && is_way_below s (child above n) p) directory
-      ∙ way_there (child above n) p (firm_child above n directory) (ap (λ (r : Path). is_some (seen s r)) (append_assoc above (n ∷ []) p) ∙ h)
+      ∙ way_there (child above n) p (firm_child above n directory) (directory_rest above n p h)
 
-  firm_there : (above p : Path) → is_firm (s above) ≡ true → is_some (seen s (above ++ p)) ≡ true → is_firm (s (above ++ p)) ≡ true
+  firm_there : (above p : Path) → is_firm (s above) ≡ true → IsInDirectory above p → is_firm (s (above ++ p)) ≡ true
   firm_there above [] firm h = ap (λ (r : Path). is_firm (s r)) (append-nil above) ∙ firm
   firm_there above (n ∷ p) firm h =
-      let directory = directory_above above n p h in
       ap (λ (r : Path). is_firm (s r)) (sym (append_assoc above (n ∷ []) p))
-      ∙ firm_there (child above n) p (firm_child above n directory) (ap (λ (r : Path). is_some (seen s r)) (append_assoc above (n ∷ []) p) ∙ h)
+      ∙ firm_there (child above n) p (firm_child above n (directory_first above n p h)) (directory_rest above n p h)
 
-  pub on_disk : (p : Path) → is_some (seen s p) ≡ true → IsOnDisk s p
-  on_disk p h = (way_there [] p firm_root h, firm_there [] p firm_root h)
+  in_directory : (p : Path) → has_directory (seen s (parent p)) ≡ true → IsInDirectory [] p
+  in_directory [] h = tt
+  in_directory (n ∷ p) h = h
+
+  pub on_disk : (p : Path) → has_directory (seen s (parent p)) ≡ true → IsOnDisk s p
+  on_disk p h = (way_there [] p firm_root (in_directory p h), firm_there [] p firm_root (in_directory p h))
 
 pub synced_left : (s : State) (left : Seen) → IsSynced s → MayLeave s left → (p : Path) → left p ≡ seen s p
 synced_left s left on may p = left_is_shown s on left may p

@@ -1,5 +1,5 @@
 -- What a crash can't undo, that a file takes the place of another at once, and what steps elsewhere leave alone: what a step of an update rests on.
-use Rattle.std.specs.Prelude.{◌≡◌, ◌↔◌, ◌⊎◌, Bool, true, false, ◌&&◌, not, List, [], ◌∷◌, ◌++◌, is_some, ⊤}
+use Rattle.std.specs.Prelude.{◌≡◌, ◌↔◌, ◌⊎◌, Bool, true, false, ◌&&◌, not, List, [], ◌∷◌, ◌++◌, ⊤}
 use Rattle.svn_types.specs.Names.{Path}
 use Rattle.svn_types.specs.Paths.{is_within, is_root, parent, child}
 use Rattle.svn_folder.specs.declared.step.Step.{Step}
@@ -88,12 +88,13 @@ steps_are_joined =
 
 -- ---- all of it
 
--- Once all is on the disk a crash leaves what is shown, and what is there is on the disk with all of its way.
+-- Once all is on the disk a crash leaves what is shown. What is in a directory that is there is then on the disk with all of its way, and so is that
+-- a name in it is free. (Each entry is in a directory.)
 abbrev pub a_synced_folder_stays : Type 0
 a_synced_folder_stays =
     (s : State) → IsSynced s
     → ((left : Seen) → MayLeave s left → (p : Path) → left p ≡ seen s p)
-    × ((p : Path) → is_some (seen s p) ≡ true → IsOnDisk s p)
+    × ((p : Path) → has_directory (seen s (parent p)) ≡ true → IsOnDisk s p)
 
 -- An empty folder is all on the disk.
 abbrev pub an_empty_folder_is_synced : Type 0

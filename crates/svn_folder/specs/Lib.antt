@@ -6,4 +6,5 @@ pub mod Pasts
 pub mod Memory
 pub mod Syncing
 pub mod Marking
+pub mod Summaries
 pub mod Laws

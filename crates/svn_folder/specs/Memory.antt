@@ -1,7 +1,8 @@
 -- How a folder in memory finds what is at a path, and what a crash may leave there: back through the steps that it has taken.
-use Rattle.std.specs.Prelude.{◌≡◌, List, [], ◌∷◌, Option, Some, None, ⊤}
-use Rattle.svn_types.specs.Names.{Path}
-use Rattle.svn_types.specs.Paths.{child}
+use Rattle.std.specs.Prelude.{◌≡◌, ℕ, Bool, false, ◌&&◌, ◌||◌, List, [], ◌∷◌, Option, Some, None, is_some, ⊤}
+use Rattle.std.specs.BTreeSet.{BTreeSet, contains}
+use Rattle.svn_types.specs.Names.{Path, name_cmp}
+use Rattle.svn_types.specs.Paths.{path_eq, child}
 use Rattle.svn_folder.specs.declared.entry.Entry.{Entry}
 use Rattle.svn_folder.specs.declared.fault.Misfit.{Misfit}
 use Rattle.svn_folder.specs.declared.step.Step.{Step}
@@ -41,6 +42,20 @@ IsFreeUnder s p (n ∷ q) = seen s (child p n) ≡ None
 abbrev pub IsClear : State → Path → List Step → Type 0
 IsClear s p [] = ⊤
 IsClear s p (step ∷ steps) = IsFreeUnder s p (new_name step) × IsClear s p steps
+
+-- a set of names has another one, if a step has made it and something in a directory has it
+abbrev pub AddsName : State → Path → Step → BTreeSet (List ℕ) → BTreeSet (List ℕ) → Type 0
+AddsName s p step names new =
+    (name : List ℕ) → contains name_cmp new name ≡ (contains name_cmp names name || (path_eq (new_name step) (name ∷ []) && is_some (seen s (child p name))))
+
+-- these are the names in a directory
+abbrev pub AreNamesIn : State → Path → BTreeSet (List ℕ) → Type 0
+AreNamesIn s p names = (name : List ℕ) → contains name_cmp names name ≡ is_some (seen s (child p name))
+
+-- one of these steps has made the name
+abbrev pub is_made : List Step → List ℕ → Bool
+is_made [] name = false
+is_made (step ∷ steps) name = path_eq (new_name step) (name ∷ []) || is_made steps name
 
 -- ---- what a crash may leave
 

@@ -3,16 +3,20 @@
 use crate::entry::{Entry, Mode};
 use crate::fault::{FolderFault, Misfit};
 use crate::folder::Folder;
+use crate::listing::{add_name, in_order};
 use crate::step::Step;
+use crate::summary::Summary;
+use sha1::Sha1;
 use std::alloc::{AllocError, Global};
+use std::collections::BTreeSet;
 use std::fs::{File, FileTimes, Metadata, OpenFile, OpenOptions};
-use std::io::{ErrorKind, Write};
+use std::io::{ErrorKind, Read, Write};
 use std::os::unix::fs::{OpenOptionsExt, PermissionsExt, symlink};
 use std::path::PathBuf;
 use std::rt::Files;
 use std::time::{Duration, SystemTime, UNIX_EPOCH};
 use std::{fs, io};
-use svn_types::{Name, RelPath, Text};
+use svn_types::{Name, PathFault, RelPath, Sha1Sum, Text};
 
 /// Everybody may read.
 const READ: u32 = 0o444;
@@ -21,6 +25,9 @@ const READ: u32 = 0o444;
 const WRITE: u32 = 0o222;
 
 const EXECUTE: u32 = 0o111;
+
+/// So many bytes of a file are read at once.
+const PIECE: usize = 65536;
 
 /// A folder of the system. Each step is the calls that it names, and a look before it at what the system wouldn't refuse. What the system refuses is
 /// `Failed`, with its error, also where the step doesn't fit.
@@ -31,6 +38,14 @@ const EXECUTE: u32 = 0o111;
 pub struct DiskFolder<'a, T> {
     rt: &'a T,
     root: PathBuf,
+}
+
+// Why what is at a path can't be read.
+fn unread(path: &RelPath, error: io::Error) -> Result<FolderFault, AllocError> {
+    Ok(FolderFault::Unread {
+        path: path.clone()?,
+        error,
+    })
 }
 
 // The bits of a mode.
@@ -54,6 +69,15 @@ fn mode_of(file: &Metadata) -> Mode {
         executable: bits & 0o100 != 0,
         read_only: bits & 0o200 == 0,
     }
+}
+
+// The names that these texts are.
+fn names_of(alloc: Global, texts: &[String]) -> Result<BTreeSet<Name>, PathFault> {
+    let mut names = BTreeSet::new(alloc);
+    for text in texts {
+        add_name(&mut names, Name::parse(alloc, text.as_str())?)?;
+    }
+    Ok(names)
 }
 
 // Whether nothing is at a path: the name isn't there, or what should be a directory on the way isn't one.
@@ -210,6 +234,56 @@ impl<'a, T: Files + AllocGlobal> DiskFolder<'a, T> {
         Ok(Entry::File(Text::new(fs::read(self.rt, place)?), mode_of(found)))
     }
 
+    // The checksum of so many bytes of a file.
+    fn sum_file(&self, place: &PathBuf, len: u64) -> io::Result<Sha1Sum> {
+        let mut file = File::open(self.rt, place)?;
+        let mut piece = vec![in self.rt.alloc(); 0u8; PIECE]?;
+        let mut hasher = Sha1::new();
+        let mut left = len;
+        'pieces: while left > 0 {
+            let read = file.read(&mut piece)?;
+            if read == 0 {
+                return Err(io::Error::from(ErrorKind::UnexpectedEof));
+            }
+            let part = (read as u64).min(left);
+            hasher.update(&piece[..part as usize]);
+            left -= part;
+        }
+        Ok(Sha1Sum(hasher.finalize()))
+    }
+
+    // The same without its bytes.
+    fn summary(&self, place: &PathBuf, found: &Metadata) -> io::Result<Summary> {
+        if found.is_file() {
+            return Ok(Summary::File {
+                len: found.len(),
+                sha1: self.sum_file(place, found.len())?,
+                mode: mode_of(found),
+            });
+        }
+        Ok(self.entry(place, found)?.summary()?)
+    }
+
+    fn summary_at(&self, place: &PathBuf) -> io::Result<Option<Summary>> {
+        Ok(match self.found(place)? {
+            Some(found) => Some(self.summary(place, &found)?),
+            None => None,
+        })
+    }
+
+    // The texts that are names in a directory. A link to one isn't followed.
+    fn texts_in(&self, place: &PathBuf) -> io::Result<Vec<String>> {
+        if !self.is_directory(place)? {
+            return Err(io::Error::from(ErrorKind::NotADirectory));
+        }
+        let alloc = self.rt.alloc();
+        let mut texts = Vec::new(alloc);
+        for entry in fs::read_dir(&self.rt, place)? {
+            texts.push(String::from_str(alloc, entry?.file_name())?)?;
+        }
+        Ok(texts)
+    }
+
     fn entry_at(&self, place: &PathBuf) -> io::Result<Option<Entry>> {
         Ok(match self.found(place)? {
             Some(found) => Some(self.entry(place, &found)?),
@@ -234,10 +308,21 @@ impl<T: Files + AllocGlobal> Folder for DiskFolder<'_, T> {
     fn look(&self, _alloc: Global, path: &RelPath) -> Result<Option<Entry>, FolderFault> {
         match self.entry_at(&self.place(path)?) {
             Ok(entry) => Ok(entry),
-            Err(error) => Err(FolderFault::Unread {
-                path: path.clone()?,
-                error,
-            }),
+            Err(error) => Err(unread(path, error)?),
+        }
+    }
+
+    fn sum(&self, _alloc: Global, path: &RelPath) -> Result<Option<Summary>, FolderFault> {
+        match self.summary_at(&self.place(path)?) {
+            Ok(summary) => Ok(summary),
+            Err(error) => Err(unread(path, error)?),
+        }
+    }
+
+    fn list(&self, alloc: Global, path: &RelPath) -> Result<Vec<Name>, FolderFault> {
+        match self.texts_in(&self.place(path)?) {
+            Ok(texts) => Ok(in_order(alloc, names_of(alloc, &texts)?)?),
+            Err(error) => Err(unread(path, error)?),
         }
     }
 }

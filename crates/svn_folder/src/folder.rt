@@ -3,8 +3,9 @@
 use crate::entry::Entry;
 use crate::fault::FolderFault;
 use crate::step::Step;
+use crate::summary::Summary;
 use std::alloc::Global;
-use svn_types::RelPath;
+use svn_types::{Name, RelPath};
 
 /// A folder on disk. Its paths begin in it: the root is the folder itself.
 ///
@@ -13,6 +14,7 @@ use svn_types::RelPath;
 pub trait Folder {
     ghost use Rattle.std.specs.Prelude.{IfOk};
     ghost use Rattle.svn_folder.specs.Pasts.{Past, Unknown, Takes, Shows};
+    ghost use Rattle.svn_folder.specs.Summaries.{Sums, Lists};
 
     /// The steps that it has taken since some state; by default they aren't known.
     ghost past: { Self → Past } = { λ _. Unknown };
@@ -25,4 +27,13 @@ pub trait Folder {
     /// What is at a path, with all bytes of a file; none if nothing is there. `Unread` if the system fails, `Memory` if an allocation fails.
     fn look(&self, alloc: Global, path: &RelPath) -> Result<Option<Entry>, FolderFault>
         ensures { IfOk result (Shows (past self.now) path.now) };
+
+    /// The same without the bytes of a file: its length and its SHA-1 checksum. A file of the system isn't held in memory.
+    fn sum(&self, alloc: Global, path: &RelPath) -> Result<Option<Summary>, FolderFault>
+        ensures { IfOk result (Sums (past self.now) path.now) };
+
+    /// The names in a directory, in byte order. `Unread` if no directory is there, or the system fails, `Path` if a name in it is none that a path
+    /// may have, `Memory` if an allocation fails.
+    fn list(&self, alloc: Global, path: &RelPath) -> Result<Vec<Name>, FolderFault>
+        ensures { IfOk result (λ names. Lists (past self.now) path.now names.items) };
 }

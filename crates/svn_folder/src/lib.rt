@@ -10,21 +10,21 @@
 //! folder.take(Step::SyncDirectory(RelPath::root(alloc)))?;
 //! ```
 //!
-//! A [`Folder`] takes [`Step`]s, one by one, and shows the [`Entry`] at a path. Here are [`MemoryFolder`], on which tests run, [`DiskFolder`], a folder
-//! of the system, [`StoppedFolder`], which takes so many steps of another one and refuses all after them, and [`SyncedFolder`], which keeps what of
-//! another one isn't on the disk yet.
+//! A [`Folder`] takes [`Step`]s, one by one, shows the [`Entry`] at a path, or its [`Summary`] without the bytes of a file, and lists a directory. Here
+//! are [`MemoryFolder`], on which tests run, [`DiskFolder`], a folder of the system, [`StoppedFolder`], which takes so many steps of another one and
+//! refuses all after them, and [`SyncedFolder`], which keeps what of another one isn't on the disk yet.
 //!
 //! Definitions, in the order of reading: `specs/Entries.antt` and `States.antt` (what a path stands for, and what of it is on the disk), `Steps.antt` (when
 //! a step fits, and what it does), `Crashes.antt` (what a crash may leave, and what that assumes of a disk), `Pasts.antt` (what is known of a folder, and
-//! what a crash since a moment may have left), `Syncing.antt` (what isn't on the disk yet), `Laws.antt`.
+//! what a crash since a moment may have left), `Summaries.antt`, `Syncing.antt` (what isn't on the disk yet), `Laws.antt`.
 //!
 //! Promises: a step that is taken fitted, and is the next of those that the folder has taken; one that is refused changed nothing; after one that the
-//! system failed at, nothing more is promised than what a crash may leave (`Takes`). What is shown is what these steps leave (`Shows`). A folder in
-//! memory refuses a step only if it doesn't fit (`refused`). One that has stopped stays as it was (`stopped`). If `is_synced` of a
-//! folder that keeps this is true, all of it is on the disk (`IsSyncedPast`). Of a folder of the system no contract
-//! speaks (`disk.rt` says what is trusted). The laws, which callers use, are in `laws`: what is on the disk with all of its way stays there, also
-//! while steps are taken that are apart from it; a synced file takes the place of another at once; a crash during some steps and more is one during
-//! either; once all of a folder is on the disk, a crash leaves what it shows.
+//! system failed at, nothing more is promised than what a crash may leave (`Takes`). What is shown, summed and listed is what these steps leave (`Shows`,
+//! `Sums`, `Lists`). A folder in memory refuses a step only if it doesn't fit (`refused`). One that has stopped stays as it was (`stopped`). If
+//! `is_synced` of a folder that keeps this is true, all of it is on the disk (`IsSyncedPast`). Of a folder of the system no contract speaks (`disk.rt`
+//! says what is trusted). The laws, which callers use, are in `laws`: what is on the disk with all of its way stays there, also while steps are taken
+//! that are apart from it; a synced file takes the place of another at once; a crash during some steps and more is one during either; once all of a
+//! folder is on the disk, a crash leaves what it shows.
 //!
 //! The tests are in `test_folder`.
 #![tactic(auto)]
@@ -36,9 +36,11 @@ mod folder;
 mod held;
 mod laws;
 mod left;
+mod listing;
 mod memory;
 mod step;
 mod stopped;
+mod summary;
 mod synced;
 mod unsynced;
 
@@ -55,4 +57,5 @@ pub use laws::{
 pub use memory::MemoryFolder;
 pub use step::Step;
 pub use stopped::StoppedFolder;
+pub use summary::Summary;
 pub use synced::SyncedFolder;

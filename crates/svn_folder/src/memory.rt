@@ -1,10 +1,10 @@
 //! A folder in memory.
-ghost use Rattle.std.specs.Prelude.{◌≡◌, ◌↔◌, ◌∷◌, [], true, drop, IfOk, IsTrue};
+ghost use Rattle.std.specs.Prelude.{◌≡◌, ◌↔◌, ◌∷◌, [], true, drop, IfOk, OnOk, IsTrue};
 ghost use Rattle.svn_types.specs.Paths.{parent};
 ghost use Rattle.svn_folder.specs.Entries.{has_file, has_leaf, has_directory};
 ghost use Rattle.svn_folder.specs.States.{State, seen, empty, nothing, fresh};
 ghost use Rattle.svn_folder.specs.Steps.{put, run, fits, new_name, IsFree, IsEmpty};
-ghost use Rattle.svn_folder.specs.Memory.{origin_in, IsOrigin, IsFreeUnder, Decides, IsPlace, steps_of, state_of};
+ghost use Rattle.svn_folder.specs.Memory.{origin_in, IsOrigin, IsFreeUnder, AddsName, AreNamesIn, Decides, IsPlace, steps_of, state_of};
 ghost use Rattle.svn_folder.specs.Pasts.{Known, Takes, IsRefused};
 ghost use Rattle.svn_folder.specs.Syncing.{IsSyncedPast};
 
@@ -13,8 +13,13 @@ use crate::fault::{FolderFault, Misfit};
 use crate::folder::Folder;
 use crate::held::Left;
 use crate::left::left_at;
+use crate::listing::{add_name, in_order};
 use crate::step::Step;
+use crate::summary::Summary;
 use std::alloc::Global;
+use std::collections::BTreeSet;
+use std::io;
+use std::io::ErrorKind;
 use svn_types::{Name, PathFault, RelPath};
 
 /// Where what is at a path after a step was before it.
@@ -311,6 +316,37 @@ impl MemoryFolder {
         Ok(true)
     }
 
+    // Adds the name that a step has made, if something in a directory has it.
+    fn add_name(
+        &self,
+        path: &RelPath,
+        step: &Step,
+        names: &mut BTreeSet<Name>,
+    ) -> Result<(), PathFault>
+        ensures { OnOk result (AddsName (state_of self.now) path.now step.now names.old names.new) }
+    {
+        let Some(name) = step.new_name() else {
+            return Ok(());
+        };
+        if self.at(&path.join(self.alloc, name)?)?.is_none() {
+            return Ok(());
+        }
+        Ok(add_name(names, name.clone()?)?)
+    }
+
+    // The names in a directory. Each is one that a step has made.
+    fn names_in(&self, alloc: Global, path: &RelPath) -> Result<BTreeSet<Name>, PathFault>
+        ensures { IfOk result (AreNamesIn (state_of self.now) path.now) }
+    {
+        let mut names = BTreeSet::new(alloc);
+        let mut rest = self.steps.as_slice();
+        'names: while let Some((step, after)) = rest.split_first() {
+            self.add_name(path, step, &mut names)?;
+            rest = after;
+        }
+        Ok(names)
+    }
+
     // Why a directory there can't be removed.
     fn remove_directory_misfit(&self, path: &RelPath) -> Result<Option<Misfit>, PathFault>
         ensures { IfOk result (Decides (fits (Step.RemoveDirectory path.now) (state_of self.now))) }
@@ -361,5 +397,22 @@ impl Folder for MemoryFolder {
 
     fn look(&self, _alloc: Global, path: &RelPath) -> Result<Option<Entry>, FolderFault> {
         Ok(self.at(path)?)
+    }
+
+    fn sum(&self, _alloc: Global, path: &RelPath) -> Result<Option<Summary>, FolderFault> {
+        Ok(match self.at(path)? {
+            Some(entry) => Some(entry.summary()?),
+            None => None,
+        })
+    }
+
+    fn list(&self, alloc: Global, path: &RelPath) -> Result<Vec<Name>, FolderFault> {
+        if !self.is_directory(path)? {
+            return Err(FolderFault::Unread {
+                path: path.clone()?,
+                error: io::Error::from(ErrorKind::NotADirectory),
+            });
+        }
+        Ok(in_order(alloc, self.names_in(alloc, path)?)?)
     }
 }

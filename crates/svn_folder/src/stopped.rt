@@ -6,8 +6,9 @@ use crate::entry::Entry;
 use crate::fault::FolderFault;
 use crate::folder::Folder;
 use crate::step::Step;
+use crate::summary::Summary;
 use std::alloc::Global;
-use svn_types::RelPath;
+use svn_types::{Name, RelPath};
 
 /// A folder that takes so many steps, and then is as if the program that uses it had been stopped: it refuses each step, so that what it shows is
 /// what the steps before have left.
@@ -56,5 +57,13 @@ impl<F: Folder> Folder for StoppedFolder<F> {
 
     fn look(&self, alloc: Global, path: &RelPath) -> Result<Option<Entry>, FolderFault> {
         self.folder.look(alloc, path)
+    }
+
+    fn sum(&self, alloc: Global, path: &RelPath) -> Result<Option<Summary>, FolderFault> {
+        self.folder.sum(alloc, path)
+    }
+
+    fn list(&self, alloc: Global, path: &RelPath) -> Result<Vec<Name>, FolderFault> {
+        self.folder.list(alloc, path)
     }
 }

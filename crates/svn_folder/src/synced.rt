@@ -7,12 +7,14 @@ use crate::entry::Entry;
 use crate::fault::FolderFault;
 use crate::folder::Folder;
 use crate::step::Step;
+use crate::summary::Summary;
 use crate::unsynced::Unsynced;
 use std::alloc::Global;
-use svn_types::RelPath;
+use svn_types::{Name, RelPath};
 
 /// A folder that passes each step to another one, and keeps at which paths something may not be on the disk yet: the bytes of files, and names in
-/// directories. A directory that is renamed before everything else is on the disk is followed no more.
+/// directories. A step that is refused counts as if it had changed them. If a directory is renamed before everything is on the disk, nothing is known
+/// from then on.
 #[derive(Drop)]
 pub struct SyncedFolder<F: Folder> {
     /// The folder, which takes the steps.
@@ -22,7 +24,7 @@ pub struct SyncedFolder<F: Folder> {
 }
 
 impl<F: Folder> SyncedFolder<F> {
-    /// A folder all of which is on the disk, as an empty one is.
+    /// All of the folder is on the disk, as of an empty one. Of a folder of the system that can't be shown, and is supposed.
     pub fn new(alloc: Global, folder: F) -> SyncedFolder<F>
         requires { IsSyncedPast (F.past folder) }
         ensures { result.folder ≡ folder }
@@ -61,5 +63,13 @@ impl<F: Folder> Folder for SyncedFolder<F> {
 
     fn look(&self, alloc: Global, path: &RelPath) -> Result<Option<Entry>, FolderFault> {
         self.folder.look(alloc, path)
+    }
+
+    fn sum(&self, alloc: Global, path: &RelPath) -> Result<Option<Summary>, FolderFault> {
+        self.folder.sum(alloc, path)
+    }
+
+    fn list(&self, alloc: Global, path: &RelPath) -> Result<Vec<Name>, FolderFault> {
+        self.folder.list(alloc, path)
     }
 }

@@ -9,7 +9,8 @@ use std::alloc::Global;
 use std::path::PathBuf;
 use std::rt::Files;
 use svn_folder::{
-    DiskFolder, Entry, Folder, FolderFault, Held, MemoryFolder, StoppedFolder, SyncedFolder,
+    DiskFolder, Entry, Folder, FolderFault, Held, MemoryFolder, StoppedFolder, Summary,
+    SyncedFolder,
 };
 use svn_types::RelPath;
 use tables::{ACTS, Act, CARELESS, LOST, MOVED, PATHS, REPLACED, SYNCED, step_of};
@@ -36,12 +37,52 @@ fn told<F: Folder>(alloc: Global, folder: &mut F, act: Act) -> Result<(bool, Str
     })
 }
 
-// Fails where one folder shows something else than another.
+// What is at a path, without bytes.
+fn sum<F: Folder>(
+    alloc: Global,
+    folder: &F,
+    path: &str,
+) -> std::result::Result<Option<Summary>, FolderFault> {
+    folder.sum(alloc, &RelPath::parse(alloc, path)?)
+}
+
+// The names in a directory, or that none is there.
+fn names_in<F: Folder>(alloc: Global, folder: &F, path: &str) -> Result<String> {
+    let mut words = String::new(alloc);
+    match folder.list(alloc, &RelPath::parse(alloc, path)?) {
+        Ok(names) => {
+            for name in &names {
+                write!(words, "{name} ")?;
+            }
+        }
+        Err(_) => words.push_str("none")?,
+    }
+    Ok(words)
+}
+
+// Fails where one folder shows something else than another at a path.
+fn compare_at<F: Folder, G: Folder>(
+    alloc: Global,
+    one: &F,
+    other: &G,
+    path: &str,
+    words: &str,
+) -> Result<()> {
+    if look(alloc, one, path)? != look(alloc, other, path)? {
+        bail!("{words}: another entry at `{path}`")
+    }
+    if sum(alloc, one, path)? != sum(alloc, other, path)? {
+        bail!("{words}: another summary at `{path}`")
+    }
+    if names_in(alloc, one, path)? != names_in(alloc, other, path)? {
+        bail!("{words}: other names in `{path}`")
+    }
+    Ok(())
+}
+
 fn compare<F: Folder, G: Folder>(alloc: Global, one: &F, other: &G, words: &str) -> Result<()> {
     for path in PATHS {
-        if look(alloc, one, path)? != look(alloc, other, path)? {
-            bail!("{words}: another entry at `{path}`")
-        }
+        compare_at(alloc, one, other, path, words)?;
     }
     Ok(())
 }
