@@ -1,6 +1,6 @@
 -- The names in a directory, found among those that steps have made.
-use Rattle.std.proofs.Common.{◌≡◌, ℕ, Bool, true, false, ◌&&◌, ◌||◌, List, [], ◌∷◌, length, refl, sym, ◌∙◌, ap, subst, true≢false, arith}
-use Rattle.std.specs.Prelude.{bytes_eq, cond, Option, None, Some, is_some, ◌↔◌}
+use Rattle.std.proofs.Common.{◌≡◌, Bool, true, false, ◌&&◌, ◌||◌, List, [], ◌∷◌, length, refl, sym, ◌∙◌, ap}
+use Rattle.std.specs.Prelude.{bytes_eq, cond, is_some}
 use Rattle.std.specs.List.{list_any}
 use Rattle.std.specs.BTreeSet.{BTreeSet, contains}
 use Rattle.std.specs.BTreeMap.{is_at}
@@ -8,8 +8,7 @@ use Rattle.std.specs.List.Sorted.{IsStrictlySortedBy}
 use Rattle.svn_types.specs.Names.{Path, name_cmp}
 use Rattle.svn_types.specs.Paths.{path_eq, child}
 use Rattle.svn_types.proofs.NameLemmas.{Name, at_name}
-use Rattle.svn_types.proofs.PathLemmas.{path_eq-children}
-use Rattle.svn_lists.proofs.Equality.{bytes_eq-symm, same_bytes}
+use Rattle.svn_lists.proofs.Equality.{bytes_eq-symm}
 use Rattle.svn_folder.specs.declared.step.Step.{Step}
 use Rattle.svn_folder.specs.Entries.{has_directory}
 use Rattle.svn_folder.specs.States.{State, seen, empty}

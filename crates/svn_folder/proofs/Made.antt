@@ -1,5 +1,5 @@
 -- In a directory there are only names that a step has made: so to see whether it is empty these are looked at.
-use Rattle.std.proofs.Common.{◌≡◌, Bool, true, false, ◌||◌, ◌⊎◌, inl, inr, ⊎_elim, List, [], ◌∷◌, refl, sym, ◌∙◌, ap, subst, true≢false}
+use Rattle.std.proofs.Common.{◌≡◌, Bool, true, false, ◌⊎◌, inl, inr, ⊎_elim, List, [], ◌∷◌, refl, sym, ◌∙◌, ap, subst, true≢false}
 use Rattle.std.specs.Prelude.{bytes_eq, None, ⊤}
 use Rattle.std.proofs.lemmas.Bool.{or_parts}
 use Rattle.svn_types.specs.Names.{Path}

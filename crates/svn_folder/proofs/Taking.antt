@@ -1,10 +1,10 @@
 -- Marks at what isn't on the disk, when a step is taken or refused.
-use Rattle.std.proofs.Common.{◌≡◌, true, false, ◌⊎◌, inl, inr, List, [], ◌∷◌, ◌++◌, refl, sym, ◌∙◌, ap, subst, true≢false}
+use Rattle.std.proofs.Common.{◌≡◌, false, inl, inr, List, [], ◌∷◌, ◌++◌, refl, sym, ◌∙◌, ap, subst, true≢false}
 use Rattle.std.specs.Prelude.{Ok, Err}
 use Rattle.svn_folder.specs.declared.step.Step.{Step}
 use Rattle.svn_folder.specs.declared.fault.FolderFault.{FolderFault}
 use Rattle.svn_folder.specs.States.{State, empty}
-use Rattle.svn_folder.specs.Steps.{run, after, fits}
+use Rattle.svn_folder.specs.Steps.{run, after}
 use Rattle.svn_folder.specs.Pasts.{Past, Unknown, Known, Broken, Takes, is_known}
 use Rattle.svn_folder.specs.Syncing.{Marks, no_marks, IsSyncedBut, AreWithin, AreEnough, AreMarksOf, IsSyncedPast}
 use Rattle.svn_folder.proofs.Showing.{run_append}

@@ -88,8 +88,8 @@ steps_are_joined =
 
 -- ---- all of it
 
--- Once all is on the disk a crash leaves what is shown. What is in a directory that is there is then on the disk with all of its way, and so is that
--- a name in it is free. (Each entry is in a directory.)
+-- Once all is on the disk a crash leaves what is shown. Each path in a directory that is there is then on the disk with all of its way, also one at
+-- which nothing is. (Each entry is in a directory.)
 abbrev pub a_synced_folder_stays : Type 0
 a_synced_folder_stays =
     (s : State) → IsSynced s

@@ -2,7 +2,7 @@
 --     summary_of entry      an entry without its bytes
 --     IsListing s p names      the names in a directory, in byte order, each once
 --     Sums past p summary, Lists past p names      the same of a folder of which something is known
-use Rattle.std.specs.Prelude.{◌≡◌, ℕ, true, List, [], ◌∷◌, length, bytes_eq, Option, is_some, ⊤}
+use Rattle.std.specs.Prelude.{◌≡◌, ℕ, true, List, length, bytes_eq, Option, is_some, ⊤}
 use Rattle.std.specs.List.{list_any}
 use Rattle.std.specs.List.Sorted.{IsStrictlySortedBy}
 use Rattle.std.specs.Option.{option_map}

@@ -41,7 +41,7 @@ pub fn steps_are_joined()
     ensures { steps_are_joined }
 {}
 
-/// Once all of a folder is on the disk a crash leaves what it shows; and what is in a directory that is there, or that nothing has a name in it, is on
+/// Once all of a folder is on the disk a crash leaves what it shows. Each path in a directory that is there, also one at which nothing is, is then on
 /// the disk with each name on the way to it.
 pub fn a_synced_folder_stays()
     ensures { a_synced_folder_stays }
