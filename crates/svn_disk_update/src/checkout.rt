@@ -1,0 +1,267 @@
+//! A working copy, made anew.
+
+use crate::carry::{carry_out, replace_database};
+use crate::fault::DiskFault;
+use crate::layout::Admin;
+use crate::node_file::{entry_of, file_of};
+use crate::source::Source;
+use crate::steps::{make_directory, make_synced, prepare, sync_directory};
+use crate::texts::{Keeper, kept_text};
+use std::alloc::Global;
+use svn_folder::{Folder, Mode, Step, SyncedFolder};
+use svn_model::BaseNode;
+use svn_types::{RelPath, Text};
+use svn_wc::WorkingCopy;
+use svn_wcdb::TableRow;
+use svn_wcrows::{
+    LastChange, Numbers, Owner, Recorded, Tables, Work, lock_row, node_record, work_rows,
+    write_copy,
+};
+
+/// The numbers of a copy that is made anew.
+const OWNER: Owner = Owner {
+    wc_id: 1,
+    repos_id: 1,
+};
+
+/// What a client writes into the files `format` and `entries` of a copy, for older clients.
+const FORMAT: &[u8] = b"12\n";
+
+/// What a checkout is of.
+#[derive(Clone, Copy)]
+pub struct Checkout<'a> {
+    /// The URL of the repository's root.
+    pub url: &'a [u8],
+    /// The repository's UUID.
+    pub uuid: &'a [u8],
+    /// The copy that is to be on disk.
+    pub copy: &'a WorkingCopy,
+    /// The properties that its root inherits in the repository, as `inherited_props` gives them.
+    pub inherited: Option<&'a [u8]>,
+    /// The time of its files, in microseconds since 1970.
+    pub time: u64,
+}
+
+// What a checkout has done so far.
+#[derive(Drop)]
+struct Progress {
+    tables: Tables,
+    nodes: Vec<(RelPath, BaseNode)>,
+    work: Vec<Work>,
+    // How many files have names of their own.
+    files: usize,
+}
+
+// What all of a checkout is made with.
+#[derive(Clone, Copy)]
+struct Making<'a> {
+    alloc: Global,
+    admin: &'a Admin,
+    inherited: Option<&'a [u8]>,
+    time: u64,
+}
+
+// Refuses a folder that is a copy's, or in which something is where the copy would have a node: of each name in the folder itself.
+fn refuse_taken<F: Folder>(alloc: Global, folder: &F, copy: &WorkingCopy) -> Result<(), DiskFault> {
+    if is_taken(alloc, folder, &Admin::of_copy(alloc)?)? {
+        return Err(DiskFault::ACopy);
+    }
+    if is_taken(alloc, folder, &Admin::of_new(alloc)?)? {
+        return Err(DiskFault::CutOff);
+    }
+    for (path, _) in copy.iter() {
+        if path.components().len() == 1 && folder.look(alloc, path)?.is_some() {
+            return Err(DiskFault::InTheWay(path.clone()?));
+        }
+    }
+    Ok(())
+}
+
+// Whether the administrative folder is there.
+fn is_taken<F: Folder>(alloc: Global, folder: &F, admin: &Admin) -> Result<bool, DiskFault> {
+    Ok(folder.look(alloc, &admin.folder(alloc)?)?.is_some())
+}
+
+// Makes the administrative folder, with the files that older clients look for. Each name is synced before those below it, which count only then.
+fn make_admin<F: Folder>(alloc: Global, folder: &mut F, admin: &Admin) -> Result<(), DiskFault> {
+    make_directory(folder, admin.folder(alloc)?)?;
+    sync_directory(folder, &RelPath::root(alloc))?;
+    make_directory(folder, admin.pristine(alloc)?)?;
+    make_directory(folder, admin.temporary(alloc)?)?;
+    for name in ["format", "entries"] {
+        let path = admin.path(alloc, name)?;
+        let text = Text::from_slice(alloc, FORMAT)?;
+        make_synced(folder, &path, text, Mode::PLAIN, None)?;
+    }
+    sync_directory(folder, &admin.folder(alloc)?)
+}
+
+impl Progress {
+    fn begin(alloc: Global, what: &Checkout<'_>) -> Result<Progress, DiskFault> {
+        Ok(Progress {
+            tables: Tables::new(alloc, what.url, what.uuid)?,
+            nodes: Vec::new(alloc),
+            work: Vec::new(alloc),
+            files: 0,
+        })
+    }
+
+    // Adds the row of a node.
+    fn push_row<S: Source>(
+        &mut self,
+        making: &Making<'_>,
+        source: &S,
+        entry: (&RelPath, &BaseNode),
+        size: Option<u64>,
+    ) -> Result<(), DiskFault> {
+        let (path, node) = entry;
+        let recorded = Recorded {
+            change: last_change(source, node),
+            size_and_time: size.map(|size| (size, making.time)),
+            inherited: if path.is_root() {
+                making.inherited
+            } else {
+                None
+            },
+        };
+        let bytes = node_record(making.alloc, OWNER, path, node, &recorded)?;
+        let rowid = self.nodes.len() as u64 + 1;
+        self.tables.nodes.push(TableRow { rowid, bytes })?;
+        self.nodes.push((path.clone()?, node.clone()?))?;
+        Ok(())
+    }
+}
+
+// The last change of a node, if it is known.
+fn last_change<'a, S: Source>(source: &'a S, node: &BaseNode) -> Option<LastChange<'a>> {
+    match (node.rev(), node.repos_path()) {
+        (Some(rev), Some(repos_path)) => source.last_change(rev, repos_path),
+        _ => None,
+    }
+}
+
+// Prepares a file, whose pristine text is kept.
+fn prepare_file<F: Folder, S: Source>(
+    making: &Making<'_>,
+    folder: &mut F,
+    source: &S,
+    progress: &mut Progress,
+    entry: (&RelPath, &BaseNode),
+) -> Result<(), DiskFault> {
+    let (path, node) = entry;
+    let Some((name, props)) = file_of(node) else {
+        return Ok(());
+    };
+    let text = kept_text(making.alloc, folder, making.admin, path, name)?;
+    let from = making.admin.new_file(making.alloc, progress.files)?;
+    let made = entry_of(making.alloc, text, props)?;
+    let size = prepare(folder, &from, made, Some(making.time))?;
+    progress.push_row(making, source, entry, size)?;
+    progress.work.push(Work::InstallFile(path.clone()?))?;
+    progress.files = progress.files.saturating_add(1);
+    Ok(())
+}
+
+// Prepares a node: a file, or the work that a directory is.
+fn prepare_node<F: Folder, S: Source>(
+    making: &Making<'_>,
+    folder: &mut F,
+    source: &S,
+    progress: &mut Progress,
+    entry: (&RelPath, &BaseNode),
+) -> Result<(), DiskFault> {
+    let (path, node) = entry;
+    if !node.is_directory() {
+        return prepare_file(making, folder, source, progress, entry);
+    }
+    progress.push_row(making, source, entry, None)?;
+    if !path.is_root() {
+        progress.work.push(Work::MakeDirectory(path.clone()?))?;
+    }
+    Ok(())
+}
+
+// Brings the texts to disk, and each file under a name of its own.
+fn prepare_all<F: Folder, S: Source>(
+    making: &Making<'_>,
+    folder: &mut F,
+    source: &mut S,
+    what: &Checkout<'_>,
+) -> Result<Progress, DiskFault> {
+    let alloc = making.alloc;
+    let mut progress = Progress::begin(alloc, what)?;
+    let mut keeper = Keeper::new(alloc, making.admin);
+    keeper.keep_all(folder, source, &mut progress.tables.pristine, what.copy)?;
+    for (path, node) in what.copy.iter() {
+        prepare_node(making, folder, source, &mut progress, (path, node))?;
+    }
+    sync_directory(folder, &making.admin.pristine(alloc)?)?;
+    sync_directory(folder, &making.admin.temporary(alloc)?)?;
+    progress.tables.count_texts(alloc)?;
+    Ok(progress)
+}
+
+// The database of a copy with work to do, which keeps clients from it.
+fn image_with_work(alloc: Global, progress: &mut Progress) -> Result<Vec<u8>, DiskFault> {
+    progress.tables.work_queue = work_rows(alloc, &progress.work, 0)?;
+    progress.tables.last_work = progress.work.len() as u64;
+    let mut locks = Vec::new(alloc);
+    locks.push(lock_row(alloc, OWNER)?)?;
+    progress.tables.wc_lock = locks;
+    Ok(write_copy(
+        alloc,
+        &progress.tables,
+        Numbers::with_work(1),
+        &progress.nodes,
+    )?)
+}
+
+// The database of a copy with no work left.
+fn image_at_end(alloc: Global, progress: &mut Progress) -> Result<Vec<u8>, DiskFault> {
+    progress.tables.work_queue = Vec::new(alloc);
+    progress.tables.wc_lock = Vec::new(alloc);
+    Ok(write_copy(alloc, &progress.tables, Numbers::at_end(2), &progress.nodes)?)
+}
+
+/// Makes a working copy in a folder that is there.
+///
+/// Refused before anything is changed: ACopy where it is a working copy's, InTheWay at the first path of the copy in the folder itself that is
+/// taken. Then NoText at the first file whose text isn't given, Folder where a step fails, Rows, Path and Memory. Before the administrative folder has
+/// its name there is no copy; from then on there is the whole copy, with work left that `svn cleanup` does too.
+pub fn check_out<F: Folder, S: Source>(
+    alloc: Global,
+    folder: &mut SyncedFolder<F>,
+    source: &mut S,
+    what: &Checkout<'_>,
+) -> Result<(), DiskFault> {
+    refuse_taken(alloc, folder, what.copy)?;
+    let new = Admin::of_new(alloc)?;
+    make_admin(alloc, folder, &new)?;
+    let making = Making {
+        alloc,
+        admin: &new,
+        inherited: what.inherited,
+        time: what.time,
+    };
+    let mut progress = prepare_all(&making, folder, source, what)?;
+    let image = image_with_work(alloc, &mut progress)?;
+    make_synced(
+        folder,
+        &new.database(alloc)?,
+        Text::new(image),
+        Mode::PLAIN,
+        None,
+    )?;
+    sync_directory(folder, &new.folder(alloc)?)?;
+    if !folder.is_synced() {
+        return Err(DiskFault::NotSynced);
+    }
+    let end = image_at_end(alloc, &mut progress)?;
+    let admin = Admin::of_copy(alloc)?;
+    folder.take(Step::RenameDirectory {
+        from: new.name.clone()?,
+        to: admin.name.clone()?,
+    })?;
+    carry_out(alloc, folder, &admin, &progress.work)?;
+    replace_database(alloc, folder, &admin, end)
+}

@@ -1,0 +1,126 @@
+//! Why a working copy isn't brought to disk.
+ghost use Rattle.std.specs.Prelude.{◌≡◌};
+ghost use Rattle.svn_disk_update.specs.declared.fault.DiskFault.TheVariants.{Memory};
+
+use std::alloc::{AllocError, AllocFailed};
+use svn_folder::FolderFault;
+use svn_image::ImageFault;
+use svn_types::{PathFault, RelPath};
+use svn_wc::WcFault;
+use svn_wcdb::{Refusal, WcdbFault};
+use svn_wcrows::RowsFault;
+use thiserror::Error;
+
+/// Why a working copy isn't brought to disk.
+#[derive(Debug, Drop, Error)]
+pub enum DiskFault {
+    /// Something is at a path where the copy would put a node. Nothing was changed.
+    #[error("{0}: something is in the way")]
+    InTheWay(RelPath),
+    /// A working copy is there already. Nothing was changed.
+    #[error("there is a working copy already")]
+    ACopy,
+    /// No working copy is there.
+    #[error("no working copy")]
+    NoCopy,
+    /// A checkout was cut off here before there was a copy. Nothing was changed.
+    #[error("a checkout was cut off: remove .svn-new")]
+    CutOff,
+    /// The copy is locked, or has work left that isn't this library's, or that a client has changed since. Nothing was changed.
+    #[error("locked, or with unfinished work of a client: run `svn cleanup`")]
+    Foreign,
+    /// The database can't be read, or isn't that of a copy.
+    #[error("{0}")]
+    Database(Refusal),
+    /// Its nodes are no working copy.
+    #[error("{0}")]
+    Nodes(WcFault),
+    /// The source has another text for a stand-in, or none.
+    #[error("{0}: its text isn't given")]
+    NoText(RelPath),
+    /// A node's text is no stand-in by SHA-1.
+    #[error("a text is no checksum")]
+    NoStandIn,
+    /// Not all was on the disk when the copy was to come to be. This is a fault of this crate.
+    #[error("not all of it is on the disk")]
+    NotSynced,
+    /// The folder refuses a step, or fails.
+    #[error("{0}")]
+    Folder(FolderFault),
+    /// The database can't be written.
+    #[error("{0}")]
+    Rows(RowsFault),
+    /// A path is longer than a folder takes.
+    #[error("{0}")]
+    Path(PathFault),
+    /// An allocation failed.
+    #[error("out of memory")]
+    Memory,
+}
+
+impl From<FolderFault> for DiskFault {
+    fn from(fault: FolderFault) -> DiskFault {
+        match fault {
+            FolderFault::Memory => DiskFault::Memory,
+            fault => DiskFault::Folder(fault),
+        }
+    }
+}
+
+impl From<Refusal> for DiskFault {
+    fn from(refusal: Refusal) -> DiskFault {
+        match refusal.fault {
+            WcdbFault::Memory => DiskFault::Memory,
+            WcdbFault::Refused(_) => DiskFault::Database(refusal),
+        }
+    }
+}
+
+impl From<WcFault> for DiskFault {
+    fn from(fault: WcFault) -> DiskFault {
+        match fault {
+            WcFault::Memory => DiskFault::Memory,
+            fault => DiskFault::Nodes(fault),
+        }
+    }
+}
+
+impl From<RowsFault> for DiskFault {
+    fn from(fault: RowsFault) -> DiskFault {
+        match fault {
+            RowsFault::Memory => DiskFault::Memory,
+            fault => DiskFault::Rows(fault),
+        }
+    }
+}
+
+impl From<ImageFault> for DiskFault {
+    fn from(fault: ImageFault) -> DiskFault {
+        DiskFault::from(RowsFault::from(fault))
+    }
+}
+
+impl From<PathFault> for DiskFault {
+    fn from(fault: PathFault) -> DiskFault {
+        match fault {
+            PathFault::Memory => DiskFault::Memory,
+            fault => DiskFault::Path(fault),
+        }
+    }
+}
+
+impl From<AllocError> for DiskFault {
+    ghost from_gives = { λ _ e. e ≡ Memory };
+
+    fn from(_error: AllocError) -> DiskFault {
+        DiskFault::Memory
+    }
+}
+
+impl<T: Drop> From<AllocFailed<T>> for DiskFault {
+    ghost from_gives = { λ _ e. e ≡ Memory };
+
+    fn from(_error: AllocFailed<T>) -> DiskFault {
+        DiskFault::Memory
+    }
+}

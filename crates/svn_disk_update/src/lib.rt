@@ -1,0 +1,45 @@
+//! Working copies of Subversion, brought to disk: what a client takes over as its own.
+//!
+//! ```
+//! let mut folder = SyncedFolder::new(alloc, DiskFolder::new(rt, root));
+//! let what = Checkout { url, uuid, copy: &copy, inherited: None, time };
+//! check_out(alloc, &mut folder, &mut source, &what)?;
+//! ```
+//!
+//! [`check_out`] makes all of a copy in the folder `.svn-new`: its texts, each file under a name of its own, and the database, whose work queue says
+//! what is left to do. Once all of it is on the disk the folder becomes `.svn`, by one rename; then directories are made, files get their places, and
+//! another database without a queue takes the place of the first. Before the rename there is no copy, from then on there is the whole one: [`resume`]
+//! completes it, or `svn cleanup`. A [`Source`] gives the texts, in any order, and each node's last change.
+//!
+//! | Files, lowest first | What they do |
+//! |---|---|
+//! | `fault` | why a copy isn't brought to disk |
+//! | `layout` | where a copy keeps what it knows |
+//! | `steps` | steps of a folder that belong together |
+//! | `node_file` | what a file is on disk, by its text and properties |
+//! | `source`, `texts` | where texts come from; pristine texts, brought to disk |
+//! | `inherited` | the properties that a copy's root inherits |
+//! | `carry` | the work of a new copy, done |
+//! | `checkout`, `existing`, `completion` | a new copy; one that is on disk; what was cut off, completed |
+//!
+//! Promises: every function is safe and returns. A database is written only if the nodes of the copy are read from its bytes (`write_copy` of
+//! `svn_wcrows`), and a text is kept only under the checksum that it has. What a crash leaves is tested by `test_disk` at each step, and not yet proved.
+#![tactic(auto)]
+
+mod carry;
+mod checkout;
+mod completion;
+mod existing;
+mod fault;
+mod inherited;
+mod layout;
+mod node_file;
+mod source;
+mod steps;
+mod texts;
+
+pub use checkout::{Checkout, check_out};
+pub use completion::resume;
+pub use fault::DiskFault;
+pub use inherited::inherited_props;
+pub use source::Source;

@@ -1,0 +1,2 @@
+mod NodeEquality
+mod RowLemmas

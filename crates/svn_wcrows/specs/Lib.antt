@@ -1,0 +1,5 @@
+pub mod Skels
+pub mod Databases
+pub mod Faults
+pub mod Copies
+pub mod Rows

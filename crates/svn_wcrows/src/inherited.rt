@@ -1,0 +1,42 @@
+//! The properties that a node inherits from above it in the repository, as the column `inherited_props` of NODES has them.
+
+use crate::fault::RowsFault;
+use crate::paths::path_column;
+use crate::properties::push_props;
+use crate::skel::push_atom;
+use std::alloc::{AllocError, Global};
+use svn_types::{Props, RelPath};
+
+/// Lists of properties, each with the path in the repository that they are at, from above.
+#[derive(Debug, Drop)]
+pub struct Inherited {
+    bytes: Vec<u8>,
+}
+
+impl Inherited {
+    /// None yet.
+    pub fn new(alloc: Global) -> Result<Inherited, AllocError> {
+        Ok(Inherited {
+            bytes: Vec::from_slice(alloc, b"(")?,
+        })
+    }
+
+    /// Adds those at a path, if there are any.
+    pub fn push(&mut self, alloc: Global, path: &RelPath, props: &Props) -> Result<(), RowsFault> {
+        if props.is_empty() {
+            return Ok(());
+        }
+        let path = path_column(alloc, path)?;
+        self.bytes.push(b'(')?;
+        push_atom(&mut self.bytes, path.as_bytes())?;
+        self.bytes.push(b' ')?;
+        push_props(&mut self.bytes, props)?;
+        Ok(self.bytes.push(b')')?)
+    }
+
+    /// The column.
+    pub fn finish(mut self) -> Result<Vec<u8>, AllocError> {
+        self.bytes.push(b')')?;
+        Ok(self.bytes)
+    }
+}

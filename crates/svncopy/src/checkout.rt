@@ -1,0 +1,89 @@
+//! `svncopy checkout`.
+
+use crate::command_line;
+use crate::dump::{History, open};
+use crate::fault::Fault;
+use crate::progress::Progress;
+use crate::url::address_of;
+use std::alloc::Global;
+use std::fs;
+use std::io::ErrorKind;
+use std::path::PathBuf;
+use std::rt::{Clock, Files};
+use std::time::{SystemTime, UNIX_EPOCH};
+use svn_disk_update::{Checkout, check_out, inherited_props};
+use svn_folder::{DiskFolder, SyncedFolder};
+use svn_types::{RelPath, Rev};
+use svn_wc::{WcFault, WorkingCopy};
+
+// The time now, in microseconds since 1970.
+fn now<T: Clock>(rt: &T) -> Result<u64, Fault> {
+    match SystemTime::now(rt) {
+        Ok(time) => Ok(match time.duration_since(UNIX_EPOCH) {
+            Ok(since) => u64::try_from(since.as_micros()).unwrap_or(0),
+            Err(_) => 0,
+        }),
+        Err(error) => Err(Fault::Clock(error)),
+    }
+}
+
+// The copy of a path in a revision.
+fn copy_of(
+    alloc: Global,
+    history: &History,
+    path: &RelPath,
+    rev: Rev,
+) -> Result<WorkingCopy, Fault> {
+    let last = history.repo.latest();
+    if rev > last {
+        return Err(Fault::NoRevision(rev.0, last.0));
+    }
+    match WorkingCopy::checkout_at(alloc, &history.repo, path, rev) {
+        Ok(copy) => Ok(copy),
+        Err(WcFault::Memory) => Err(Fault::Memory),
+        Err(fault) => Err(Fault::NoDirectory(fault)),
+    }
+}
+
+// Makes the folder, if it isn't there.
+fn make_folder<T: Files>(rt: &T, folder: &str) -> Result<(), Fault> {
+    match fs::create_dir(rt, folder) {
+        Ok(()) => Ok(()),
+        Err(error) if error.kind() == ErrorKind::AlreadyExists => Ok(()),
+        Err(error) => Err(Fault::NoFolder(error)),
+    }
+}
+
+/// Makes a working copy, and says of which revision it is.
+pub(crate) fn make<T: Files + Input + Print + Eprint + Clock + AllocGlobal>(
+    rt: &T,
+    words: &command_line::Checkout<'_>,
+) -> Result<(), Fault> {
+    let alloc = rt.alloc();
+    let address = address_of(alloc, words)?;
+    let dump = open(rt, words.dump, words.folder)?;
+    let mut progress = Progress::begin(rt, words.progress);
+    let (history, mut texts) = dump.load(alloc, &mut progress)?;
+    let rev = address.rev.unwrap_or(history.repo.latest());
+    let copy = copy_of(alloc, &history, &address.path, rev)?;
+    let inherited = inherited_props(alloc, &history.repo, rev, &address.path)?;
+    make_folder(rt, words.folder)?;
+    let folder = DiskFolder::new(rt, PathBuf::from_str(alloc, words.folder)?);
+    let mut folder = SyncedFolder::new(alloc, folder);
+    let url = address.root.as_bytes();
+    let uuid = history.uuid.as_slice();
+    let inherited = inherited.as_deref();
+    let time = now(rt)?;
+    let what = Checkout {
+        url,
+        uuid,
+        copy: &copy,
+        inherited,
+        time,
+    };
+    check_out(alloc, &mut folder, &mut texts, &what)?;
+    match println!(rt; "Checked out revision {}.", rev.0) {
+        Ok(()) => Ok(()),
+        Err(_) => Err(Fault::Write),
+    }
+}

@@ -1,0 +1,120 @@
+//! The arguments of the command line.
+
+use clap::{Arg, ArgAction, ArgMatches, Command, Error};
+use std::alloc::{AllocError, Global};
+
+const ABOUT: &str = "Makes working copies of Subversion from a dump of a repository.";
+
+const AFTER: &str = "\
+docs/COPY.md describes what is written and what is refused.
+
+Status 0: it was done.
+Status 2: an argument, the dump or a folder was refused, or the system failed.
+
+Example: svnadmin dump -q repo | svncopy checkout - svn://h/repo/trunk@12 wc --root svn://h/repo";
+
+/// `checkout DUMP URL[@REV] WC`: make a working copy.
+#[derive(Clone, Copy, Debug)]
+pub(crate) struct Checkout<'a> {
+    /// The dump, `-` for standard input.
+    pub(crate) dump: &'a str,
+    /// The URL, with a revision after `@` if one is given.
+    pub(crate) url: &'a str,
+    /// The folder.
+    pub(crate) folder: &'a str,
+    /// The URL of the repository's root, if it is given.
+    pub(crate) root: Option<&'a str>,
+    /// Whether to print how far it is.
+    pub(crate) progress: bool,
+}
+
+/// What is asked for.
+#[derive(Debug, Drop)]
+pub(crate) enum Request<'a> {
+    Checkout(Checkout<'a>),
+    /// `resume WC..`: complete what was cut off.
+    Resume(Vec<&'a str>),
+}
+
+fn word<'a>(alloc: Global, id: &'a str, name: &'a str, help: &'a str) -> Arg<'a> {
+    Arg::new(alloc, id)
+        .value_name(name)
+        .help(help)
+        .required(true)
+}
+
+fn checkout_command<'a>(alloc: Global) -> Result<Command<'a>, AllocError> {
+    Command::new(alloc, "checkout")
+        .about("Make a working copy of a revision")
+        .arg(word(alloc, "dump", "DUMP", "The dump, or - for standard input"))?
+        .arg(word(
+            alloc,
+            "url",
+            "URL",
+            "The URL that the copy is of, and @REV; by default the last revision",
+        ))?
+        .arg(word(
+            alloc,
+            "folder",
+            "WC",
+            "The folder of the working copy, which may be there",
+        ))?
+        .arg(
+            Arg::new(alloc, "root")
+                .long("root")
+                .value_name("URL")
+                .help("The URL of the repository's root, by default the copy's"),
+        )?
+        .arg(
+            Arg::new(alloc, "progress")
+                .long("progress")
+                .action(ArgAction::SetTrue)
+                .help("Print on standard error how many revisions and bytes are read"),
+        )
+}
+
+fn resume_command<'a>(alloc: Global) -> Result<Command<'a>, AllocError> {
+    Command::new(alloc, "resume")
+        .about("Complete working copies whose making was cut off")
+        .arg(word(alloc, "folders", "WC", "The folder of a working copy").num_args(1..))
+}
+
+fn command<'a>(alloc: Global) -> Result<Command<'a>, AllocError> {
+    Command::new(alloc, "svncopy")
+        .about(ABOUT)
+        .after_help(AFTER)
+        .subcommand_required(true)
+        .disable_help_subcommand(true)
+        .subcommand(checkout_command(alloc)?)?
+        .subcommand(resume_command(alloc)?)
+}
+
+fn checkout_of<'a>(matches: &ArgMatches<'a>) -> Checkout<'a> {
+    Checkout {
+        dump: matches.get_str("dump").unwrap_or("-"),
+        url: matches.get_str("url").unwrap_or(""),
+        folder: matches.get_str("folder").unwrap_or("."),
+        root: matches.get_str("root"),
+        progress: matches.get_flag("progress"),
+    }
+}
+
+fn folders_of<'a>(alloc: Global, matches: &ArgMatches<'a>) -> Result<Vec<&'a str>, AllocError> {
+    match matches.get_strs("folders") {
+        Some(folders) => Vec::from_slice(alloc, folders),
+        None => Ok(Vec::new(alloc)),
+    }
+}
+
+/// What the words of a call ask for. The first is the program's name.
+pub(crate) fn request_of<'a>(alloc: Global, words: &'a [&'a str]) -> Result<Request<'a>, Error> {
+    let matches = command(alloc)?.try_get_matches_from(words)?;
+    let Some((name, words)) = matches.subcommand() else {
+        // a subcommand is required
+        return Err(Error::from(AllocError));
+    };
+    Ok(match name {
+        "resume" => Request::Resume(folders_of(alloc, words)?),
+        _ => Request::Checkout(checkout_of(words)),
+    })
+}

@@ -1,0 +1,112 @@
+//! Why the program refuses.
+
+use crate::command_line::Checkout;
+use std::alloc::{AllocError, AllocFailed};
+use std::io;
+use svn_disk_update::DiskFault;
+use svn_dump::DumpFault;
+use svn_history::LoadFault;
+use svn_wc::WcFault;
+use thiserror::Error;
+
+/// Why nothing is done, or no more than was.
+#[derive(Debug, Drop, Error)]
+pub(crate) enum Fault {
+    /// The words of the command line can't be had.
+    #[error("words of the command line: {0}")]
+    Words(io::Error),
+    /// The dump can't be opened.
+    #[error("{0}")]
+    Unread(io::Error),
+    /// Standard input can't be kept in a file.
+    #[error("{path}: {error}")]
+    Kept {
+        /// The file.
+        path: String,
+        /// What the system says.
+        error: io::Error,
+    },
+    /// The dump isn't one, or its first bytes can't be read.
+    #[error("byte 0: {0}")]
+    Front(DumpFault),
+    /// The dump is refused: where, and why.
+    #[error("byte {byte}: {fault}")]
+    Dump {
+        /// So many bytes are before the record that is refused.
+        byte: u64,
+        /// Why it is.
+        fault: LoadFault,
+    },
+    /// The dump gives no UUID.
+    #[error("the dump has no UUID")]
+    NoUuid,
+    /// The URL isn't below the root's.
+    #[error("the URL isn't below the root's")]
+    OtherRoot,
+    /// What is after the root's URL is no path, or what is after `@` no number.
+    #[error("bad URL")]
+    BadUrl,
+    /// The history has no such revision; the last one.
+    #[error("there is no r{0}: the last is r{1}")]
+    NoRevision(u64, u64),
+    /// The revision has no directory at the path.
+    #[error("{0}")]
+    NoDirectory(WcFault),
+    /// The folder can't be made.
+    #[error("{0}")]
+    NoFolder(io::Error),
+    /// The clock can't be read.
+    #[error("the clock: {0}")]
+    Clock(io::Error),
+    /// The copy isn't brought to disk.
+    #[error("{0}")]
+    Disk(DiskFault),
+    /// The output couldn't be written.
+    #[error("write fault")]
+    Write,
+    /// An allocation failed.
+    #[error("out of memory")]
+    Memory,
+}
+
+impl Fault {
+    /// The word of a call that it is about.
+    pub(crate) fn subject<'a>(&self, words: &Checkout<'a>) -> &'a str {
+        match self {
+            Fault::Unread(_)
+            | Fault::Kept { .. }
+            | Fault::Front(_)
+            | Fault::Dump { .. }
+            | Fault::NoUuid
+            | Fault::NoRevision(_, _) => words.dump,
+            Fault::OtherRoot | Fault::BadUrl | Fault::NoDirectory(_) => words.url,
+            Fault::Words(_)
+            | Fault::NoFolder(_)
+            | Fault::Clock(_)
+            | Fault::Disk(_)
+            | Fault::Write
+            | Fault::Memory => words.folder,
+        }
+    }
+}
+
+impl From<AllocError> for Fault {
+    fn from(_error: AllocError) -> Fault {
+        Fault::Memory
+    }
+}
+
+impl<T: Drop> From<AllocFailed<T>> for Fault {
+    fn from(_error: AllocFailed<T>) -> Fault {
+        Fault::Memory
+    }
+}
+
+impl From<DiskFault> for Fault {
+    fn from(fault: DiskFault) -> Fault {
+        match fault {
+            DiskFault::Memory => Fault::Memory,
+            fault => Fault::Disk(fault),
+        }
+    }
+}

@@ -1,0 +1,111 @@
+//! A small history, and where its texts come from.
+
+use anyhow::Result;
+use std::alloc::Global;
+use svn_digits::stand_in;
+use svn_disk_update::{Checkout, Source, check_out};
+use svn_folder::{Folder, MemoryFolder, StoppedFolder, SyncedFolder, an_empty_folder_is_synced};
+use svn_repo::{Change, PropName, Repo};
+use svn_types::{RelPath, Rev, Text};
+use svn_wc::WorkingCopy;
+use svn_wcrows::LastChange;
+
+/// The files of the history: their paths, texts, and the property that each has.
+const FILES: [(&str, &str, &str); 5] = [
+    ("a", "first\n", "svn:executable"),
+    ("d/b", "second\n", "p"),
+    ("d/same", "first\n", "svn:needs-lock"),
+    ("d/e/empty", "", "q"),
+    ("link", "link a", "svn:special"),
+];
+
+/// A folder in memory that stops, and knows what of it is on the disk.
+pub(crate) type Stopping = SyncedFolder<StoppedFolder<MemoryFolder>>;
+
+/// Its texts, one after another.
+#[derive(Clone, Copy, Debug)]
+pub(crate) struct Known {
+    next: usize,
+}
+
+impl Source for Known {
+    fn next_text(&mut self, alloc: Global) -> Option<Text> {
+        let (_, text, _) = FILES.get(self.next)?;
+        self.next += 1;
+        Text::from_slice(alloc, text.as_bytes()).ok()
+    }
+
+    fn last_change(&self, rev: Rev, _path: &RelPath) -> Option<LastChange<'_>> {
+        Some(LastChange {
+            rev,
+            date: Some(1_700_000_000_000_000),
+            author: Some(b"jo"),
+        })
+    }
+}
+
+fn push_file(alloc: Global, changes: &mut Vec<Change>, file: &(&str, &str, &str)) -> Result<()> {
+    let (path, text, name) = file;
+    let path = RelPath::parse(alloc, path)?;
+    changes.push(Change::PutFile {
+        path: path.clone()?,
+        text: stand_in(alloc, text.as_bytes())?,
+    })?;
+    changes.push(Change::SetProp {
+        path,
+        name: PropName::parse(alloc, name)?,
+        value: Some(Text::from_slice(alloc, b"*")?),
+    })?;
+    Ok(())
+}
+
+// The directories, if there is a file in them, and the files.
+fn changes(alloc: Global, files: usize) -> Result<Vec<Change>> {
+    let mut changes = Vec::new(alloc);
+    if files > 1 {
+        for path in ["d", "d/e"] {
+            let path = RelPath::parse(alloc, path)?;
+            changes.push(Change::MakeDir { path })?;
+        }
+    }
+    for file in FILES.iter().take(files) {
+        push_file(alloc, &mut changes, file)?;
+    }
+    Ok(changes)
+}
+
+/// The copy of a revision with so many of the files, at most 5.
+pub(crate) fn copy(alloc: Global, files: usize) -> Result<WorkingCopy> {
+    let mut repo = Repo::new(alloc)?;
+    repo.commit(&changes(alloc, files)?)?;
+    Ok(WorkingCopy::checkout(alloc, &repo, Rev(1))?)
+}
+
+/// Makes it in a folder.
+pub(crate) fn make<F: Folder>(
+    alloc: Global,
+    folder: &mut SyncedFolder<F>,
+    copy: &WorkingCopy,
+) -> Result<()> {
+    let what = Checkout {
+        url: b"svn://h/repo",
+        uuid: b"8c2cd125-01f3-4a01-a4b5-22ec721dff0f",
+        copy,
+        inherited: None,
+        time: 1_700_000_000_000_000,
+    };
+    check_out(alloc, folder, &mut Known { next: 0 }, &what)?;
+    Ok(())
+}
+
+/// An empty folder in memory that takes so many steps.
+pub(crate) fn empty(alloc: Global, limit: u64) -> Stopping {
+    an_empty_folder_is_synced();
+    SyncedFolder::new(alloc, StoppedFolder::new(MemoryFolder::new(alloc), limit))
+}
+
+/// The folder in memory, as it was left.
+pub(crate) fn inner(folder: Stopping) -> MemoryFolder {
+    let SyncedFolder { folder, .. } = folder;
+    folder.folder
+}

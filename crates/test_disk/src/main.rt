@@ -1,0 +1,44 @@
+//! Working copies that are brought to disk: each stop of a checkout and of its completion, by the program's end and by a loss of power; what the folder
+//! has at the end; what is refused. The folder is one in memory, whose crashes are those of `svn_folder`.
+#![tactic(auto)]
+
+mod copies;
+mod refusals;
+mod stops;
+
+use anyhow::Result;
+use copies::{copy, empty, inner, make};
+use refusals::try_refusals;
+use std::alloc::Global;
+use std::process::ExitCode;
+use stops::{try_losses, try_resumes, try_stops};
+use svn_folder::MemoryFolder;
+use svn_wc::WorkingCopy;
+
+// A folder with the whole copy.
+fn whole(alloc: Global, copy: &WorkingCopy) -> Result<MemoryFolder> {
+    let mut folder = empty(alloc, u64::MAX);
+    make(alloc, &mut folder, copy)?;
+    Ok(inner(folder))
+}
+
+fn try_all<R: Print + AllocGlobal>(rt: &R) -> Result<()> {
+    let alloc = rt.alloc();
+    let copy = copy(alloc, 5)?;
+    let whole = whole(alloc, &copy)?;
+    println!(rt; "a checkout takes {} steps", whole.steps().len())?;
+    try_stops(rt, &copy, &whole)?;
+    try_resumes(rt, &copy, &whole)?;
+    try_losses(rt)?;
+    try_refusals(rt, &copy, &whole)
+}
+
+fn main(rt: HostRuntime) -> ExitCode {
+    match try_all(&rt) {
+        Ok(()) => ExitCode::SUCCESS,
+        Err(error) => {
+            let _ = eprintln!(&rt; "test_disk: {error}");
+            ExitCode::FAILURE
+        }
+    }
+}

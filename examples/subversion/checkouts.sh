@@ -1,0 +1,119 @@
+#!/bin/bash
+# Working copies that `svncopy checkout` makes of a dump, compared with those that `svn checkout` makes of the repository: the rows of the database, the
+# pristine texts, files, modes and links. Then the client works on in them: status, commit, update, switch, revert, cleanup. Copies whose making was cut off
+# by a signal are completed by `svncopy resume`, and by `svn cleanup`.
+#
+# It needs Debian's packages `subversion` and `sqlite3`, python3, and `svncopy` as `tools/prove svncopy` builds it: crates/svncopy/out/svncopy, or the
+# program that the variable SVNCOPY names. RANDOM_COPIES says how many copies are made at random, by default 60. It works in a folder of its own, which
+# goes at the end, and is no part of the gate. The last line counts what differs.
+. "$(dirname "${BASH_SOURCE[0]}")/room.sh"
+. "$here/dump_history.sh"
+needs sqlite3 python3
+needs_built svncopy
+
+make_history repo || exit 1
+svnadmin dump -q repo >dump
+url=file://$room/repo
+last=$(svnlook youngest repo)
+# a name of a URL, with its signs escaped
+escaped() { python3 -c 'import sys, urllib.parse; print(urllib.parse.quote(sys.argv[1]))' "$1"; }
+
+# pristine_texts WC: the pristine texts, each with its checksum
+pristine_texts() { (cd "$1/.svn/pristine" && find . -type f | LC_ALL=C sort | xargs -r sha1sum); }
+
+# compare WHAT PATH REV: the copies of both programs
+compare() {
+    local what=$1 at
+    at=$url/$(escaped "$2")
+    rm -rf ours theirs
+    svn -q checkout "$at@$3" -r "$3" theirs 2>errors || return 0
+    "$SVNCOPY" checkout dump "$at@$3" ours --root "$url" >got 2>&1
+    echo "Checked out revision $3." >wanted
+    same "$what: the line" wanted got
+    "$here/rows.py" theirs >wanted
+    "$here/rows.py" ours >got
+    same "$what: the copy" wanted got
+    pristine_texts theirs >wanted
+    pristine_texts ours >got
+    same "$what: the texts" wanted got
+    svn status ours >got
+    : >wanted
+    same "$what: svn status" wanted got
+}
+
+echo "== named copies"
+for rev in $(seq 0 "$last"); do compare "r$rev" '' "$rev"; done
+compare trunk trunk 4
+compare odd trunk/odd 9
+compare branch branches/1.x/lib 7
+
+echo "== ${RANDOM_COPIES:=60} copies at random, of histories at random"
+RANDOM=2
+for n in $(seq "$RANDOM_COPIES"); do
+    if [ $((n % 10)) = 1 ]; then
+        rm -rf repo
+        "$here/random_history.py" "$n" 12 repo >/dev/null
+        svnadmin dump -q repo >dump
+        last=$(svnlook youngest repo)
+    fi
+    rev=$((RANDOM % last + 1))
+    path=$(svnlook tree --full-paths -r "$rev" repo | grep '/$' | LC_ALL=C sort | sed -n "$((RANDOM % 4 + 1))p" | sed 's|/$||; s|^/||')
+    compare "random $n, r$rev of '$path'" "$path" "$rev"
+done
+
+echo "== the client works on"
+rm -rf repo copy
+make_history repo || exit 1
+svnadmin dump -q repo >dump
+last=$(svnlook youngest repo)
+rm -rf ours
+"$SVNCOPY" checkout dump "$url/trunk@4" ours --root "$url" >/dev/null || wrong=$((wrong + 1))
+work_on() {
+    echo mine >>ours/a.c
+    [ "$(svn status ours)" = "M       ours/a.c" ] || return 1
+    svn -q revert ours/a.c && [ -z "$(svn status ours)" ] || return 1
+    svn -q update -r 6 ours && svn -q switch "$url/branches/1.x@7" -r 7 ours && svn -q switch "$url/trunk" ours || return 1
+    echo more >>ours/library/uno && svn -q commit -m more ours && svn -q update ours && svn cleanup --vacuum-pristines ours || return 1
+    [ -z "$(svn status ours)" ] && sqlite3 ours/.svn/wc.db 'pragma integrity_check' | grep -qx ok
+}
+compared=$((compared + 1))
+work_on 2>errors || { wrong=$((wrong + 1)); echo "THE CLIENT DOESN'T GO ON:"; sed 's/^/    /' errors; }
+
+echo "== copies that were cut off"
+rm -rf repo copy
+make_history repo || exit 1
+svnadmin dump -q repo >dump
+svn -q checkout "$url@8" -r 8 theirs8
+"$here/rows.py" theirs8 >wanted8
+cut=0
+for n in $(seq 60); do
+    rm -rf ours again
+    "$SVNCOPY" checkout dump "$url@8" ours >/dev/null 2>&1 & pid=$!
+    sleep "0.0$((n % 6))$((n / 6))"
+    kill -9 $pid 2>/dev/null
+    wait $pid 2>/dev/null
+    [ -d ours/.svn ] || continue
+    cp -a ours again
+    [ "$(sqlite3 ours/.svn/wc.db 'select count(*) from wc_lock')" = 0 ] || cut=$((cut + 1))
+    "$SVNCOPY" resume ours >/dev/null 2>errors || { wrong=$((wrong + 1)); sed 's/^/    /' errors; }
+    "$here/rows.py" ours >got
+    same "cut off $n, completed by resume" wanted8 got
+    svn cleanup again
+    svn status again >got
+    : >wanted
+    same "cut off $n, completed by svn cleanup" wanted got
+done
+echo "    $cut of them had work left"
+
+echo "== refusals"
+rm -rf ours; mkdir ours; echo mine >ours/trunk
+refused 'a file in the way' "svncopy: ours: trunk: something is in the way" "$SVNCOPY" checkout dump "$url@4" ours
+refused 'a copy' "svncopy: theirs8: there is a working copy already" "$SVNCOPY" checkout dump "$url@4" theirs8
+refused 'another root' "svncopy: $url/trunk: the URL isn't below the root's" "$SVNCOPY" checkout dump "$url/trunk" ours --root svn://other
+refused 'no such revision' "svncopy: dump: there is no r99: the last is r$(svnlook youngest repo)" "$SVNCOPY" checkout dump "$url@99" new
+refused 'a bad revision' "svncopy: $url@x: bad URL" "$SVNCOPY" checkout dump "$url@x" new
+refused 'no dump' "svncopy: nowhere: No such file or directory (os error 2)" "$SVNCOPY" checkout nowhere "$url@4" new
+refused 'no copy' "svncopy: repo: no working copy" "$SVNCOPY" resume repo
+sqlite3 theirs8/.svn/wc.db "insert into wc_lock values (1, '', -1)"
+refused 'a lock of a client' "svncopy: theirs8: locked, or with unfinished work of a client: run \`svn cleanup\`" "$SVNCOPY" resume theirs8
+end
