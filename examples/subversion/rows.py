@@ -18,24 +18,22 @@ COLUMNS = "wc_id, local_relpath, op_depth, parent_relpath, repos_id, repos_path,
     "checksum, symlink_target, translated_size, last_mod_time, file_external, inherited_props"
 
 
-def lists(text):
-    """The lists of an outer list, each a path and the properties there."""
+def inherited(text):
+    """Paths with the properties there, of a list of both in turn."""
     if text is None:
         return None
     found, at = [], 1
     while text[at:at + 1] != b")":
-        if text[at:at + 1] == b"(":
+        if text[at:at + 1] == b" ":
             at += 1
-            while text[at:at + 1] == b" ":
-                at += 1
-            path, at = atom(text, at)
-            start = text.index(b"(", at)
-            end = start + 1
-            while text[end:end + 1] != b")":
-                end = end + 1 if text[end:end + 1] == b" " else atom(text, end)[1]
-            found.append((path, properties(text[start:end + 1])))
-            at = end + 1
+            continue
+        path, at = atom(text, at)
+        start = text.index(b"(", at)
+        at = start + 1
+        while text[at:at + 1] != b")":
+            at = at + 1 if text[at:at + 1] == b" " else atom(text, at)[1]
         at += 1
+        found.append((path, sorted(properties(text[start:at]).items())))
     return found
 
 
@@ -47,7 +45,7 @@ def nodes(database):
         if b"svn:keywords" in props or b"svn:special" in props:
             row[15] = row[16] = None
         row[16] = row[16] is not None
-        row[18] = lists(row[18])
+        row[18] = inherited(row[18])
         print("node", row)
 
 
@@ -59,7 +57,7 @@ def files(folder):
         if b"svn:keywords" in properties(props):
             expanded.add(path)
     top = os.fsencode(folder)
-    for above, folders, names in sorted(os.walk(top)):
+    for above, folders, names in os.walk(top):
         folders[:] = sorted(it for it in folders if os.path.join(above, it) != os.path.join(top, b".svn"))
         for name in sorted(names + folders):
             place = os.path.join(above, name)

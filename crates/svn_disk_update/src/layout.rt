@@ -7,9 +7,9 @@ use svn_wcdb::pristine_path;
 
 /// The administrative folder of a working copy, under the name that it has while a copy is made or once it is there.
 #[derive(Debug, Drop)]
-pub struct Admin {
+pub(crate) struct Admin {
     /// Its name in the working copy's folder.
-    pub name: Name,
+    pub(crate) name: Name,
 }
 
 /// The name that it has.
@@ -20,52 +20,52 @@ const NEW: &str = ".svn-new";
 
 impl Admin {
     /// That of a working copy.
-    pub fn of_copy(alloc: Global) -> Result<Admin, DiskFault> {
+    pub(crate) fn of_copy(alloc: Global) -> Result<Admin, DiskFault> {
         Ok(Admin {
             name: Name::parse(alloc, NAME)?,
         })
     }
 
     /// That of a copy that is made.
-    pub fn of_new(alloc: Global) -> Result<Admin, DiskFault> {
+    pub(crate) fn of_new(alloc: Global) -> Result<Admin, DiskFault> {
         Ok(Admin {
             name: Name::parse(alloc, NEW)?,
         })
     }
 
     /// The folder itself.
-    pub fn folder(&self, alloc: Global) -> Result<RelPath, DiskFault> {
+    pub(crate) fn folder(&self, alloc: Global) -> Result<RelPath, DiskFault> {
         Ok(RelPath::root(alloc).join(alloc, &self.name)?)
     }
 
     /// What is under a name in it.
-    pub fn path(&self, alloc: Global, name: &str) -> Result<RelPath, DiskFault> {
+    pub(crate) fn path(&self, alloc: Global, name: &str) -> Result<RelPath, DiskFault> {
         let below = RelPath::parse(alloc, name)?;
         Ok(self.folder(alloc)?.join_path(alloc, &below)?)
     }
 
     /// The database.
-    pub fn database(&self, alloc: Global) -> Result<RelPath, DiskFault> {
+    pub(crate) fn database(&self, alloc: Global) -> Result<RelPath, DiskFault> {
         self.path(alloc, "wc.db")
     }
 
     /// The database, before it has its name.
-    pub fn new_database(&self, alloc: Global) -> Result<RelPath, DiskFault> {
+    pub(crate) fn new_database(&self, alloc: Global) -> Result<RelPath, DiskFault> {
         self.path(alloc, "tmp/new-wc.db")
     }
 
     /// The folder of what has no name yet.
-    pub fn temporary(&self, alloc: Global) -> Result<RelPath, DiskFault> {
+    pub(crate) fn temporary(&self, alloc: Global) -> Result<RelPath, DiskFault> {
         self.path(alloc, "tmp")
     }
 
     /// The folder of the pristine texts.
-    pub fn pristine(&self, alloc: Global) -> Result<RelPath, DiskFault> {
+    pub(crate) fn pristine(&self, alloc: Global) -> Result<RelPath, DiskFault> {
         self.path(alloc, "pristine")
     }
 
     /// The pristine text that a stand-in names.
-    pub fn text(&self, alloc: Global, stand_in: &[u8]) -> Result<RelPath, DiskFault> {
+    pub(crate) fn text(&self, alloc: Global, stand_in: &[u8]) -> Result<RelPath, DiskFault> {
         let Some(below) = pristine_path(alloc, stand_in)? else {
             return Err(DiskFault::NoStandIn);
         };
@@ -77,12 +77,12 @@ impl Admin {
     }
 
     /// A pristine text, before it has its name.
-    pub fn new_text(&self, alloc: Global) -> Result<RelPath, DiskFault> {
+    pub(crate) fn new_text(&self, alloc: Global) -> Result<RelPath, DiskFault> {
         self.path(alloc, "tmp/new-text")
     }
 
     /// The file of that number, before it has its place.
-    pub fn new_file(&self, alloc: Global, number: usize) -> Result<RelPath, DiskFault> {
+    pub(crate) fn new_file(&self, alloc: Global, number: usize) -> Result<RelPath, DiskFault> {
         let name = format!(in alloc; "tmp/new-{number}")?;
         self.path(alloc, &name)
     }

@@ -7,7 +7,7 @@ use crate::skel::push_atom;
 use std::alloc::{AllocError, Global};
 use svn_types::{Props, RelPath};
 
-/// Lists of properties, each with the path in the repository that they are at, from above.
+/// A list of paths in the repository, from above, and of the list of properties at each.
 #[derive(Debug, Drop)]
 pub struct Inherited {
     bytes: Vec<u8>,
@@ -27,11 +27,9 @@ impl Inherited {
             return Ok(());
         }
         let path = path_column(alloc, path)?;
-        self.bytes.push(b'(')?;
         push_atom(&mut self.bytes, path.as_bytes())?;
         self.bytes.push(b' ')?;
-        push_props(&mut self.bytes, props)?;
-        Ok(self.bytes.push(b')')?)
+        Ok(push_props(&mut self.bytes, props)?)
     }
 
     /// The column.

@@ -9,16 +9,19 @@ use svn_folder::{Entry, Folder, MemoryFolder, Mode, Step};
 use svn_types::{RelPath, Text};
 use svn_wc::WorkingCopy;
 
-/// What is there before: a directory at each of these paths.
+/// What is there before, and on the disk: a directory at each of these paths.
 const TAKEN: [&str; 5] = [".svn", ".svn-new", "a", "d", "other"];
 
 fn with_directory(alloc: Global, path: &str) -> Result<Stopping> {
     let mut folder = empty(alloc, u64::MAX);
+    let path = RelPath::parse(alloc, path)?;
     folder.take(Step::Make {
-        path: RelPath::parse(alloc, path)?,
+        path: path.clone()?,
         entry: Entry::Directory,
         modified: None,
     })?;
+    folder.take(Step::SyncDirectory(RelPath::root(alloc)))?;
+    folder.take(Step::SyncDirectory(path))?;
     Ok(folder)
 }
 
