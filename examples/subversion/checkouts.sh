@@ -3,12 +3,12 @@
 # pristine texts, files, modes and links. Then the client works on in them: status, commit, update, switch, revert, cleanup. Copies whose making was cut off
 # by a signal are completed by `svncopy resume`, and by `svn cleanup`.
 #
-# It needs Debian's packages `subversion` and `sqlite3`, python3, and `svncopy` as `tools/prove svncopy` builds it: crates/svncopy/out/svncopy, or the
+# It needs Debian's packages `subversion`, `sqlite3` and `strace`, python3, and `svncopy` as `tools/prove svncopy` builds it: crates/svncopy/out/svncopy, or the
 # program that the variable SVNCOPY names. RANDOM_COPIES says how many copies are made at random, by default 60. It works in a folder of its own, which
 # goes at the end, and is no part of the gate. The last line counts what differs.
 . "$(dirname "${BASH_SOURCE[0]}")/room.sh"
 . "$here/dump_history.sh"
-needs sqlite3 python3
+needs sqlite3 python3 strace
 needs_built svncopy
 
 make_history repo || exit 1
@@ -73,7 +73,7 @@ work_on() {
     [ "$(svn status ours)" = "M       ours/a.c" ] || return 1
     svn -q revert ours/a.c && [ -z "$(svn status ours)" ] || return 1
     svn -q update -r 6 ours && svn -q switch "$url/branches/1.x@7" -r 7 ours && svn -q switch "$url/trunk" ours || return 1
-    echo more >>ours/library/uno && svn -q commit -m more ours && svn -q update ours && svn cleanup --vacuum-pristines ours || return 1
+    echo more >>ours/library/one && svn -q commit -m more ours && svn -q update ours && svn cleanup --vacuum-pristines ours || return 1
     [ -z "$(svn status ours)" ] && sqlite3 ours/.svn/wc.db 'pragma integrity_check' | grep -qx ok
 }
 compared=$((compared + 1))
@@ -85,25 +85,30 @@ make_history repo || exit 1
 svnadmin dump -q repo >dump
 svn -q checkout "$url@8" -r 8 theirs8
 "$here/rows.py" theirs8 >wanted8
-cut=0
-for n in $(seq 60); do
+# the program is killed as it renames something for the n-th time, which strace does
+strace -f -e trace=rename -o trace "$SVNCOPY" checkout dump "$url@8" counted >/dev/null
+renames=$(grep -c 'rename(' trace)
+copies=0 cut=0
+for n in $(seq 1 3 "$renames") "$renames"; do
     rm -rf ours again
-    "$SVNCOPY" checkout dump "$url@8" ours >/dev/null 2>&1 & pid=$!
-    sleep "0.0$((n % 6))$((n / 6))"
-    kill -9 $pid 2>/dev/null
-    wait $pid 2>/dev/null
-    [ -d ours/.svn ] || continue
+    (strace -f -e trace=rename -e inject=rename:signal=SIGKILL:when="$n" -o /dev/null "$SVNCOPY" checkout dump "$url@8" ours; true) >/dev/null 2>&1
+    if [ ! -d ours/.svn ]; then
+        refused "cut off at rename $n, again" "svncopy: ours: a checkout was cut off: remove .svn-new" "$SVNCOPY" checkout dump "$url@8" ours
+        continue
+    fi
+    copies=$((copies + 1))
     cp -a ours again
     [ "$(sqlite3 ours/.svn/wc.db 'select count(*) from wc_lock')" = 0 ] || cut=$((cut + 1))
     "$SVNCOPY" resume ours >/dev/null 2>errors || { wrong=$((wrong + 1)); sed 's/^/    /' errors; }
     "$here/rows.py" ours >got
-    same "cut off $n, completed by resume" wanted8 got
+    same "cut off at rename $n, completed by resume" wanted8 got
     svn cleanup again
     svn status again >got
     : >wanted
-    same "cut off $n, completed by svn cleanup" wanted got
+    same "cut off at rename $n, completed by svn cleanup" wanted got
 done
-echo "    $cut of them had work left"
+echo "    there was a copy after $copies of them, and $cut had work left"
+[ $cut != 0 ] || wrong=$((wrong + 1))
 
 echo "== refusals"
 rm -rf ours; mkdir ours; echo mine >ours/trunk
