@@ -119,6 +119,10 @@ refused 'no such revision' "svncopy: dump: there is no r99: the last is r$(svnlo
 refused 'a bad revision' "svncopy: $url@x: bad URL" "$SVNCOPY" checkout dump "$url@x" new
 refused 'no dump' "svncopy: nowhere: No such file or directory (os error 2)" "$SVNCOPY" checkout nowhere "$url@4" new
 refused 'no copy' "svncopy: repo: no working copy" "$SVNCOPY" resume repo
+printf 'SVN-fs-dump-format-version: 2\n\nUUID: 11111111-2222-3333-4444-555555555555\n\n' >reserved
+printf 'Revision-number: %d\nProp-content-length: 10\nContent-length: 10\n\nPROPS-END\n\n' 0 1 >>reserved
+printf 'Node-path: .svn\nNode-kind: dir\nNode-action: add\n\n\n' >>reserved
+refused 'a node named .svn' "svncopy: svn://h/r@1: .svn: no node of a working copy may have the name .svn" "$SVNCOPY" checkout reserved svn://h/r@1 new
 sqlite3 theirs8/.svn/wc.db "insert into wc_lock values (1, '', -1)"
 refused 'a lock of a client' "svncopy: theirs8: locked, or with unfinished work of a client: run \`svn cleanup\`" "$SVNCOPY" resume theirs8
 end

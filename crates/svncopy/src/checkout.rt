@@ -45,6 +45,26 @@ fn copy_of(
     }
 }
 
+// Whether a path has the name of the folder in which a working copy keeps what it knows.
+fn is_reserved(path: &RelPath) -> bool {
+    for name in path.components() {
+        if name.as_str() == ".svn" {
+            return true;
+        }
+    }
+    false
+}
+
+// Refuses a node of that name, as Subversion does.
+fn refuse_reserved(copy: &WorkingCopy) -> Result<(), Fault> {
+    for (path, _) in copy.iter() {
+        if is_reserved(path) {
+            return Err(Fault::Reserved(path.clone()?));
+        }
+    }
+    Ok(())
+}
+
 // Makes the folder, if it isn't there.
 fn make_folder<T: Files>(rt: &T, folder: &str) -> Result<(), Fault> {
     match fs::create_dir(rt, folder) {
@@ -66,6 +86,7 @@ pub(crate) fn make<T: Files + Input + Print + Eprint + Clock + AllocGlobal>(
     let (history, mut texts) = dump.load(alloc, &mut progress)?;
     let rev = address.rev.unwrap_or(history.repo.latest());
     let copy = copy_of(alloc, &history, &address.path, rev)?;
+    refuse_reserved(&copy)?;
     let inherited = inherited_props(alloc, &history.repo, rev, &address.path)?;
     make_folder(rt, words.folder)?;
     let folder = DiskFolder::new(rt, PathBuf::from_str(alloc, words.folder)?);
