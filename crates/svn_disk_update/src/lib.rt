@@ -22,8 +22,8 @@
 //! | `carry` | the work of a new copy, done |
 //! | `checkout`, `existing`, `completion` | a new copy; one that is on disk; what was cut off, completed |
 //!
-//! Promises: every function is safe and returns. A database is written only if the nodes of the copy are read from its bytes (`write_copy` of
-//! `svn_wcrows`), and a text is kept only under the checksum that it has. What a crash leaves is tested by `test_disk` at each step, and not yet proved.
+//! Promises: every function is safe and returns. The databases are made by `write_copy` of `svn_wcrows`, which returns bytes only if the nodes of the copy
+//! are read from them. What is on disk afterwards, and what a crash leaves, is tested by `test_disk` at each step, and not yet proved.
 #![tactic(auto)]
 
 mod carry;
