@@ -285,7 +285,7 @@ run_some letter run content is =
 
 -- ---- changes of the grammar are read
 
-no_prop_name_fault : (n : List ℕ) → IsPropName n → prop_name_fault n ≡ None
+pub no_prop_name_fault : (n : List ℕ) → IsPropName n → prop_name_fault n ≡ None
 no_prop_name_fault n h = some n h.bounded h.text
   where
     some : (n : List ℕ) → length n ≤ name_limit → is_prop_text n ≡ true → prop_name_fault n ≡ None

@@ -96,7 +96,7 @@ put_last (e ∷ done) p rest sorted =
     ap (λ o. match_ordering o (p ∷ e ∷ done) ((e.0, p.1) ∷ done) (e ∷ insert_entry name_cmp done p.0 p.1)) (reversed e.0 p.0 Less less)
     ∙ ap (λ (l : List Prop). e ∷ l) (put_last done p rest (sorted_tail name_cmp e.0 (keys_of (done ++ p ∷ rest)) sorted))
 
-set_after : (done all : List Prop) → InNameOrder (done ++ all) → with_changes done (settings all) ≡ done ++ all
+pub set_after : (done all : List Prop) → InNameOrder (done ++ all) → with_changes done (settings all) ≡ done ++ all
 set_after done [] sorted = sym (append-nil done)
 set_after done (p ∷ all) sorted =
     let parts : (done ++ p ∷ []) ++ all ≡ done ++ p ∷ all = append_assoc done (p ∷ []) all in

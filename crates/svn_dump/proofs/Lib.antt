@@ -18,3 +18,5 @@ pub mod Openings
 pub mod RecordLemmas
 -- what is written
 pub mod Appends
+-- an index
+pub mod Indexing

@@ -11,3 +11,4 @@ pub mod Sections
 pub mod Records
 pub mod Readers
 pub mod Written
+pub mod Indexes

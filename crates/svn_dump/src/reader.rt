@@ -1,5 +1,5 @@
 //! Dumps, read record by record.
-ghost use Rattle.std.specs.Prelude.{◌≡◌, ◌≤◌, ◌≢◌, ◌↔◌, [], false, codes, IfOk, IsSome, IsTrue};
+ghost use Rattle.std.specs.Prelude.{◌≡◌, ◌≤◌, ◌≢◌, ◌↔◌, [], false, codes, IfOk, OnOk, IsSome, IsTrue};
 ghost use Rattle.std.specs.Option.{option_copied};
 ghost use Rattle.svn_dump.specs.Blocks.{block_at};
 ghost use Rattle.svn_dump.specs.Headers.{header_value, if_once};
@@ -7,17 +7,24 @@ ghost use Rattle.svn_dump.specs.HeaderNames.{name_of};
 ghost use Rattle.svn_dump.specs.Reading.{Gives, Reads, FailsWith};
 ghost use Rattle.svn_dump.specs.Records.{is_given, other_subject, subject_of, node_of, format_value, node_at, passed_at, headed_at, record_at};
 ghost use Rattle.svn_dump.specs.Counts.{Counts, Grows};
+ghost use Rattle.svn_dump.specs.Indexes.{NotedBy, IsNoted};
+ghost use Rattle.svn_dump.specs.declared.record.Record.TheVariants.{Revision};
 ghost use Rattle.svn_dump.specs.Readers.{left_in, Opens, headers_len, Shows, UnlessBroken};
 
 use crate::fault::{DumpFault, Reason};
 use crate::fields::{action_in, kind_in, number_in, path_in, source_in};
 use crate::header_name::HeaderName;
 use crate::headers::Headers;
+use crate::index::DumpIndex;
 use crate::input::{Input, Source, read_block};
+use crate::notes::Notes;
 use crate::record::{NodeRecord, Record};
-use crate::sections::{Limits, Texts, read_prop_section, read_text_section, skip_sections};
+use crate::revision::pass_revision;
+use crate::sections::{
+    Keeping, Limits, Texts, read_prop_section, read_text_section, skip_sections,
+};
 use crate::shape::{lengths_in, shape_in};
-use std::alloc::Global;
+use std::alloc::{AllocError, Global};
 use std::io::Read;
 use svn_types::Rev;
 
@@ -31,6 +38,8 @@ pub struct Reader<R> {
     // The headers of the record that was read last, and how many bytes are before them.
     block: Vec<u8>,
     begun: u64,
+    // What the records said beside the history, if that was asked for.
+    index: Option<DumpIndex>,
 }
 
 // What a record is about.
@@ -111,21 +120,20 @@ fn node_in(alloc: Global, headers: &Headers<'_>) -> Result<NodeRecord, DumpFault
 // Reads the node that the headers begin.
 #[tactic(auto, unfolding(crate::specs::Records::node_at))]
 fn read_node<S: Input>(
-    alloc: Global,
+    keeping: Keeping,
     source: &mut S,
     headers: &Headers<'_>,
-    limits: Limits,
-    texts: Texts,
+    notes: &mut Notes,
 ) -> Result<Record, DumpFault>
-    ensures bytes { Reads (λ r. r) (S.remaining source.old) (S.remaining source.new) result (node_at limits texts headers.now) }
+    ensures bytes { Reads (λ r. r) (S.remaining source.old) (S.remaining source.new) result (node_at keeping.limits keeping.texts headers.now) }
     ensures counted { Counts (S.taken source.old) (S.remaining source.old) (S.taken source.new) (S.remaining source.new) }
     ensures grows { S.taken source.old ≤ S.taken source.new }
     ensures failed { FailsWith (S.failed source.old) (S.failed source.new) result }
 {
-    let mut node = node_in(alloc, headers)?;
+    let mut node = node_in(keeping.alloc, headers)?;
     let shape = shape_in(headers)?;
-    node.props = read_prop_section(alloc, source, &shape, limits.props)?;
-    node.text = read_text_section(alloc, source, &shape, texts, limits.text)?;
+    node.props = read_prop_section(keeping.alloc, source, &shape, keeping.limits.props)?;
+    node.text = read_text_section(keeping, source, &shape, notes)?;
     Ok(Record::Node(node))
 }
 
@@ -143,22 +151,41 @@ fn pass<S: Input>(source: &mut S, headers: &Headers<'_>, what: Record) -> Result
     }
 }
 
-// Reads the record that the headers begin.
-fn read_headed<S: Input>(
-    alloc: Global,
+// Passes over what belongs to a revision's headers, and notes what its properties say.
+fn read_revision<S: Input>(
+    keeping: Keeping,
     source: &mut S,
     headers: &Headers<'_>,
-    limits: Limits,
-    texts: Texts,
+    rev: Rev,
+    notes: &mut Notes,
 ) -> Result<Record, DumpFault>
-    ensures bytes { Reads (λ r. r) (S.remaining source.old) (S.remaining source.new) result (headed_at limits texts headers.now) }
+    ensures bytes { Reads (λ r. r) (S.remaining source.old) (S.remaining source.new) result (passed_at (Revision rev) headers.now) }
+    ensures counted { Counts (S.taken source.old) (S.remaining source.old) (S.taken source.new) (S.remaining source.new) }
+    ensures grows { S.taken source.old ≤ S.taken source.new }
+    ensures failed { FailsWith (S.failed source.old) (S.failed source.new) result }
+{
+    let lengths = lengths_in(headers)?;
+    match pass_revision(keeping, source, lengths, notes) {
+        Ok(()) => Ok(Record::Revision { rev }),
+        Err(fault) => Err(fault),
+    }
+}
+
+// Reads the record that the headers begin.
+fn read_headed<S: Input>(
+    keeping: Keeping,
+    source: &mut S,
+    headers: &Headers<'_>,
+    notes: &mut Notes,
+) -> Result<Record, DumpFault>
+    ensures bytes { Reads (λ r. r) (S.remaining source.old) (S.remaining source.new) result (headed_at keeping.limits keeping.texts headers.now) }
     ensures counted { Counts (S.taken source.old) (S.remaining source.old) (S.taken source.new) (S.remaining source.new) }
     ensures grows { S.taken source.old ≤ S.taken source.new }
     ensures failed { FailsWith (S.failed source.old) (S.failed source.new) result }
 {
     match subject_of(headers)? {
-        Subject::Node => read_node(alloc, source, headers, limits, texts),
-        Subject::Revision(rev) => pass(source, headers, Record::Revision { rev }),
+        Subject::Node => read_node(keeping, source, headers, notes),
+        Subject::Revision(rev) => read_revision(keeping, source, headers, rev, notes),
         Subject::Other => pass(source, headers, Record::Other),
     }
 }
@@ -201,7 +228,52 @@ impl<R: Read + Drop> Reader<R> {
             texts,
             block,
             begun,
+            index: None,
         })
+    }
+
+    /// The same reader, which keeps an index of what it reads from here on ([`DumpIndex`]). What it returns stays the same.
+    pub fn with_index(self) -> Reader<R>
+        ensures source { result.source ≡ self.source }
+        ensures block { result.block ≡ self.block }
+        ensures begun { result.begun ≡ self.begun }
+        ensures limits { result.limits ≡ self.limits }
+        ensures texts { result.texts ≡ self.texts }
+    {
+        let Reader {
+            source,
+            alloc,
+            limits,
+            texts,
+            block,
+            begun,
+            index,
+        } = self;
+        drop(index);
+        Reader {
+            source,
+            alloc,
+            limits,
+            texts,
+            block,
+            begun,
+            index: Some(DumpIndex::new(alloc)),
+        }
+    }
+
+    /// The index of what was read, if one is kept.
+    pub fn index(&self) -> Option<&DumpIndex>
+        ensures { option_copied result ≡ self.now.index }
+    {
+        self.index.as_ref()
+    }
+
+    /// The index of what was read, if one is kept. The dump is read no further.
+    pub fn into_index(self) -> Option<DumpIndex>
+        ensures { result ≡ self.index }
+    {
+        let Reader { index, .. } = self;
+        index
     }
 
     /// How texts are kept.
@@ -250,6 +322,7 @@ impl<R: Read + Drop> Reader<R> {
         ensures shown { UnlessBroken result (Shows self.old.limits self.old.source.taken (left_in R.remaining self.old) self.new.begun self.new.block.items) }
         ensures limits { self.new.limits ≡ self.old.limits }
         ensures texts { self.new.texts ≡ self.old.texts }
+        ensures index { self.new.index ≡ self.old.index }
     {
         self.block.clear();
         self.begun = self.source.taken();
@@ -259,7 +332,7 @@ impl<R: Read + Drop> Reader<R> {
     }
 
     // Reads the record that the headers begin.
-    fn read_record(&mut self) -> Result<Record, DumpFault>
+    fn read_record(&mut self, notes: &mut Notes) -> Result<Record, DumpFault>
         ensures bytes { Reads (λ r. r) (left_in R.remaining self.old) (left_in R.remaining self.new) result (headed_at self.old.limits self.old.texts self.old.block.items) }
         ensures counted { Counts self.old.source.taken (left_in R.remaining self.old) self.new.source.taken (left_in R.remaining self.new) }
         ensures grows { self.old.source.taken ≤ self.new.source.taken }
@@ -268,6 +341,7 @@ impl<R: Read + Drop> Reader<R> {
         ensures begun { self.new.begun ≡ self.old.begun }
         ensures limits { self.new.limits ≡ self.old.limits }
         ensures texts { self.new.texts ≡ self.old.texts }
+        ensures index { self.new.index ≡ self.old.index }
     {
         let Reader {
             source,
@@ -277,13 +351,33 @@ impl<R: Read + Drop> Reader<R> {
             block,
             ..
         } = self;
+        let keeping = Keeping {
+            alloc: *alloc,
+            limits: *limits,
+            texts: *texts,
+        };
         let headers = Headers::of(block);
-        read_headed(*alloc, source, &headers, *limits, *texts)
+        read_headed(keeping, source, &headers, notes)
+    }
+
+    // Puts what was noted of a record into the index, if one is kept.
+    fn note(&mut self, what: &Record, notes: Notes) -> Result<(), AllocError>
+        ensures noted { OnOk result (NotedBy what.now self.old.source.taken self.old.index self.new.index) }
+        ensures source { self.new.source ≡ self.old.source }
+        ensures block { self.new.block ≡ self.old.block }
+        ensures begun { self.new.begun ≡ self.old.begun }
+        ensures limits { self.new.limits ≡ self.old.limits }
+        ensures texts { self.new.texts ≡ self.old.texts }
+    {
+        match &mut self.index {
+            Some(index) => index.note(what, notes, self.source.taken()),
+            None => Ok(()),
+        }
     }
 
     /// The next record; None at the end. It is the one that `record_at` gives for the bytes that are left, and just its bytes are taken; a refusal is
     /// the first fault from left to right. After an error the reader is somewhere within the record, and what it reads next is unspecified.
-    #[tactic(auto, using(crate::proofs::RecordLemmas::no_record, crate::proofs::RecordLemmas::no_headers, crate::proofs::RecordLemmas::one_record, crate::proofs::RecordLemmas::bad_record))]
+    #[tactic(auto, using(crate::proofs::RecordLemmas::no_record, crate::proofs::RecordLemmas::no_headers, crate::proofs::RecordLemmas::one_record, crate::proofs::RecordLemmas::bad_record, crate::proofs::Pieces::no_memory))]
     pub fn next_record(&mut self) -> Result<Option<Record>, DumpFault>
         ensures bytes { Reads (λ r. r) (left_in R.remaining self.old) (left_in R.remaining self.new) result (record_at self.old.limits self.old.texts) }
         ensures counted { Counts self.old.source.taken (left_in R.remaining self.old) self.new.source.taken (left_in R.remaining self.new) }
@@ -292,11 +386,16 @@ impl<R: Read + Drop> Reader<R> {
         ensures shown { UnlessBroken result (Shows self.old.limits self.old.source.taken (left_in R.remaining self.old) self.new.begun self.new.block.items) }
         ensures limits { self.new.limits ≡ self.old.limits }
         ensures texts { self.new.texts ≡ self.old.texts }
+        ensures noted { IfOk result (λ found. IsNoted found self.new.source.taken self.old.index self.new.index) }
     {
         if !self.read_headers()? {
             return Ok(None);
         }
-        let record = self.read_record()?;
+        let mut notes = Notes::new(self.index.is_some());
+        let record = self.read_record(&mut notes)?;
+        if self.note(&record, notes).is_err() {
+            return Err(DumpFault::Memory);
+        }
         Ok(Some(record))
     }
 }

@@ -6,6 +6,7 @@ ghost use Rattle.svn_dump.specs.Sections.{after_sections, empty_delta_at, keeps,
 
 use crate::fault::{DumpFault, Reason};
 use crate::input::{Input, PIECE, has_ahead, read_bytes, read_piece};
+use crate::notes::{Notes, TextSums};
 use crate::properties::{read_changes, read_props};
 use crate::record::{PropChanges, PropSection, TextDelta, TextSection};
 use crate::shape::{GivenSums, Lengths, Shape};
@@ -35,6 +36,14 @@ pub struct Limits {
     pub text: usize,
 }
 
+/// What is kept of a record, and by which allocator.
+#[derive(Clone, Copy)]
+pub(crate) struct Keeping {
+    pub(crate) alloc: Global,
+    pub(crate) limits: Limits,
+    pub(crate) texts: Texts,
+}
+
 /// Room for two paths of 64 names of 255 bytes in the headers, for 16 MiB of properties, and for the longest text that a repository takes.
 impl Default for Limits {
     ghost is_default = { λ l. (l.headers ≡ 65536) × (l.props ≡ 16777216) × (l.text ≡ 1048576) };
@@ -48,8 +57,8 @@ impl Default for Limits {
     }
 }
 
-// Passes over so many bytes.
-fn skip_bytes<S: Input>(source: &mut S, len: u64) -> Result<(), DumpFault>
+/// Passes over so many bytes.
+pub(crate) fn skip_bytes<S: Input>(source: &mut S, len: u64) -> Result<(), DumpFault>
     ensures bytes { Reads (λ u. u) (S.remaining source.old) (S.remaining source.new) result (skipped len) }
     ensures counted { Counts (S.taken source.old) (S.remaining source.old) (S.taken source.new) (S.remaining source.new) }
     ensures grows { S.taken source.old ≤ S.taken source.new }
@@ -139,25 +148,30 @@ pub(crate) fn read_prop_section<S: Input>(
     Ok(Some(section))
 }
 
-// Reads a text of so many bytes, as it is kept.
+// Reads a text of so many bytes, as it is kept, and notes its checksums.
 fn read_whole_text<S: Input>(
-    alloc: Global,
+    keeping: Keeping,
     source: &mut S,
     len: u64,
-    texts: Texts,
     given: GivenSums,
+    notes: &mut Notes,
 ) -> Result<Text, DumpFault>
-    ensures bytes { Reads (λ text. text) (S.remaining source.old) (S.remaining source.new) result (whole_text_at texts given len) }
+    ensures bytes { Reads (λ text. text) (S.remaining source.old) (S.remaining source.new) result (whole_text_at keeping.texts given len) }
     ensures counted { Counts (S.taken source.old) (S.remaining source.old) (S.taken source.new) (S.remaining source.new) }
     ensures grows { S.taken source.old ≤ S.taken source.new }
     ensures failed { FailsWith (S.failed source.old) (S.failed source.new) result }
 {
-    let text = read_text(alloc, source, len, texts == Texts::Whole)?;
+    let text = read_text(keeping.alloc, source, len, keeping.texts == Texts::Whole)?;
     check_sums(&text, given)?;
-    match texts {
+    notes.text = Some(TextSums {
+        len,
+        md5: text.md5,
+        sha1: text.sha1,
+    });
+    match keeping.texts {
         Texts::Whole => Ok(Text::summed(text.bytes, text.md5)?),
-        Texts::Sha1 => Ok(stand_in(alloc, &text.sha1)?),
-        Texts::Md5 => Ok(md5_stand_in(alloc, &text.md5)?),
+        Texts::Sha1 => Ok(stand_in(keeping.alloc, &text.sha1)?),
+        Texts::Md5 => Ok(md5_stand_in(keeping.alloc, &text.md5)?),
     }
 }
 
@@ -242,21 +256,21 @@ fn read_text_delta<S: Input>(
 
 // Reads a text, or a text delta, of so many bytes.
 fn read_sized_text<S: Input>(
-    alloc: Global,
+    keeping: Keeping,
     source: &mut S,
     len: u64,
     shape: &Shape,
-    texts: Texts,
+    notes: &mut Notes,
 ) -> Result<TextSection, DumpFault>
-    ensures bytes { Reads (λ section. section) (S.remaining source.old) (S.remaining source.new) result (text_at shape.now texts len) }
+    ensures bytes { Reads (λ section. section) (S.remaining source.old) (S.remaining source.new) result (text_at shape.now keeping.texts len) }
     ensures counted { Counts (S.taken source.old) (S.remaining source.old) (S.taken source.new) (S.remaining source.new) }
     ensures grows { S.taken source.old ≤ S.taken source.new }
     ensures failed { FailsWith (S.failed source.old) (S.failed source.new) result }
 {
     if shape.changes_text {
-        return read_text_delta(alloc, source, len, shape, texts);
+        return read_text_delta(keeping.alloc, source, len, shape, keeping.texts);
     }
-    let text = read_whole_text(alloc, source, len, texts, shape.sums)?;
+    let text = read_whole_text(keeping, source, len, shape.sums, notes)?;
     Ok(TextSection::Whole(text))
 }
 
@@ -270,15 +284,14 @@ fn is_too_long(len: u64, texts: Texts, limit: usize) -> bool
     }
 }
 
-/// Reads the text section, if there is one.
+/// Reads the text section, if there is one, and notes the checksums of a whole text.
 pub(crate) fn read_text_section<S: Input>(
-    alloc: Global,
+    keeping: Keeping,
     source: &mut S,
     shape: &Shape,
-    texts: Texts,
-    limit: usize,
+    notes: &mut Notes,
 ) -> Result<Option<TextSection>, DumpFault>
-    ensures bytes { Reads (λ section. section) (S.remaining source.old) (S.remaining source.new) result (text_section_at shape.now texts limit) }
+    ensures bytes { Reads (λ section. section) (S.remaining source.old) (S.remaining source.new) result (text_section_at shape.now keeping.texts keeping.limits.text) }
     ensures counted { Counts (S.taken source.old) (S.remaining source.old) (S.taken source.new) (S.remaining source.new) }
     ensures grows { S.taken source.old ≤ S.taken source.new }
     ensures failed { FailsWith (S.failed source.old) (S.failed source.new) result }
@@ -286,9 +299,10 @@ pub(crate) fn read_text_section<S: Input>(
     let Some(len) = shape.lengths.text else {
         return Ok(None);
     };
-    if is_too_long(len, texts, limit) {
+    let limit = keeping.limits.text;
+    if is_too_long(len, keeping.texts, limit) {
         return Err(DumpFault::Refused(Reason::TextTooLong(len, limit as u64)));
     }
-    let section = read_sized_text(alloc, source, len, shape, texts)?;
+    let section = read_sized_text(keeping, source, len, shape, notes)?;
     Ok(Some(section))
 }

@@ -31,3 +31,5 @@ pub mod OneReading
 pub mod SameHistories
 -- What is written of commits, read and loaded.
 pub mod WrittenDumps
+-- The revision that made a node.
+pub mod MadeIn

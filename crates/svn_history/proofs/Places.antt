@@ -1,5 +1,5 @@
 -- Where a dump is refused, seen from an earlier reader, or said in other words.
-use Rattle.std.proofs.Common.{◌≡◌, ℕ, ◌+◌, List, length, Option, Some, None, Result, Ok, Err, refl, subst, sym, ap, ◌∙◌}
+use Rattle.std.proofs.Common.{◌≡◌, ℕ, ◌+◌, List, length, Option, Some, None, Err, subst, sym, ap, ◌∙◌}
 use Rattle.std.specs.Prelude.{false, MatchOption}
 use Rattle.svn_repo.specs.History.{History}
 use Rattle.svn_dump.specs.declared.fault.DumpFault.{DumpFault}

@@ -11,3 +11,6 @@ pub mod Writing
 pub mod Laws
 pub mod SameHistories
 pub mod WrittenDumps
+pub mod Made
+pub mod Changed
+pub mod Dates

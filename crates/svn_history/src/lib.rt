@@ -2,7 +2,8 @@
 //!
 //! A [`Loader`] reads a dump of `svn_dump` record by record, and makes the changes that a record stands for on a transaction of `svn_repo`, which it
 //! commits at the end of each revision. Revisions keep their numbers. A [`LoadListener`] hears of each revision that `load_all_with` loads.
-//! A [`HistoryWriter`] makes commits, change by change, and writes each as a revision of a dump.
+//! A [`HistoryWriter`] makes commits, change by change, and writes each as a revision of a dump. [`last_change`] says which revision changed a node
+//! last, when, and by whom.
 //!
 //! ```
 //! let reader = Reader::new(alloc, File::open(rt, "repo.dump")?, limits, Texts::Whole)?;
@@ -25,9 +26,12 @@
 //! ([`written_commits_load`]). From the bytes on: what was written of commits one after another is a dump, and loads as the same history, node by
 //! node and line by line ([`written_dumps_load`]); a dump loads as one history, but for the numbers of its nodes ([`dumps_load_as_one`]). Out of
 //! memory may come anywhere, a read fault only from a reader that failed, or that gave 2^64 - 1 bytes (`read`). Of a reader whose bytes no contract
-//! knows, it is proved what the records do that it gives, but not which bytes they are.
+//! knows, it is proved what the records do that it gives, but not which bytes they are. The last change of a node is `IsLastChange` of
+//! `specs/Changed.antt`, in a repository whose roots rise (`changed`).
 #![tactic(auto)]
 
+mod changed;
+mod dates;
 mod delta;
 mod fault;
 mod front;
@@ -35,10 +39,12 @@ mod history_writer;
 mod laws;
 mod listener;
 mod loader;
+mod made;
 mod records;
 mod refusal;
 mod writing;
 
+pub use changed::{LastChange, last_change};
 pub use fault::LoadFault;
 pub use history_writer::{HistoryWriter, push_beginning, push_commit};
 pub use laws::{dumps_load_as_one, written_commits_load, written_dumps_load};

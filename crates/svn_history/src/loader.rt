@@ -20,7 +20,7 @@ use crate::records::apply_record;
 use crate::refusal::Refusal;
 use std::alloc::Global;
 use std::io::Read;
-use svn_dump::{DumpFault, NodeRecord, Reader, Record};
+use svn_dump::{DumpFault, DumpIndex, NodeRecord, Reader, Record};
 use svn_repo::{Repo, Transaction};
 use svn_types::{Rev, Text};
 
@@ -152,6 +152,19 @@ impl<R: Read + Drop> Loader<R> {
         ensures { result ≡ self.transaction.history }
     {
         self.transaction.into_repo()
+    }
+
+    /// The repository, as [`Loader::into_repo`] returns it, and the index of the dump, if its reader keeps one ([`Reader::with_index`]).
+    pub fn into_parts(self) -> (Repo, Option<DumpIndex>)
+        ensures repo { result.0 ≡ self.transaction.history }
+        ensures index { result.1 ≡ self.records.index }
+    {
+        let Loader {
+            records,
+            transaction,
+            ..
+        } = self;
+        (transaction.into_repo(), records.into_index())
     }
 
     // Makes the changes of a node.

@@ -13,3 +13,5 @@ pub mod TreeLemmas
 pub mod PristineLemmas
 -- rows of NODES
 pub mod NodeLemmas
+-- Atoms by the number of their bytes.
+pub mod SizedAtoms

@@ -1,2 +1,4 @@
 mod NodeEquality
 mod RowLemmas
+-- lists of atoms, written and read
+pub mod Skels

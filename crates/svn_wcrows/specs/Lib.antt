@@ -3,3 +3,4 @@ pub mod Databases
 pub mod Faults
 pub mod Copies
 pub mod Rows
+pub mod Laws
