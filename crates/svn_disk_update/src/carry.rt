@@ -1,8 +1,10 @@
 //! The work of a new copy, done: its directories are made, and its files get their places.
+ghost use Rattle.svn_disk_update.specs.Goes.{Goes};
+ghost use Rattle.svn_disk_update.specs.Places.{is_inside};
 
 use crate::fault::DiskFault;
 use crate::layout::Admin;
-use crate::steps::{make_directory_if_none, make_synced, remove_if_any, rename, sync_directory};
+use crate::steps::{make_directory_if_none, rename, sync_directory};
 use std::alloc::Global;
 use std::collections::BTreeSet;
 use svn_folder::{Folder, Mode};
@@ -92,10 +94,14 @@ pub(crate) fn replace_database<F: Folder>(
     folder: &mut F,
     admin: &Admin,
     image: Vec<u8>,
-) -> Result<(), DiskFault> {
+) -> Result<(), DiskFault>
+    ensures { Goes (is_inside admin.now.name) (F.past folder.old) result (F.past folder.new) }
+{
     let new = admin.new_database(alloc)?;
-    remove_if_any(alloc, folder, &new)?;
-    make_synced(folder, &new, Text::new(image), Mode::PLAIN, None)?;
-    rename(folder, &new, &admin.database(alloc)?)?;
-    sync_directory(folder, &admin.folder(alloc)?)
+    let database = admin.database(alloc)?;
+    let above = admin.folder(alloc)?;
+    admin.remove_if_any(alloc, folder, &new)?;
+    admin.make_synced(folder, &new, Text::new(image), Mode::PLAIN)?;
+    admin.rename(folder, &new, &database)?;
+    admin.sync_directory(folder, &above)
 }

@@ -1,16 +1,20 @@
 //! A working copy, made anew.
+ghost use Rattle.std.specs.Prelude.{◌≡◌, bytes_eq, codes, false, OnOk};
+ghost use Rattle.svn_folder.specs.Syncing.{IsSyncedPast};
+ghost use Rattle.svn_disk_update.specs.Crashes.{IsNoCopy, Leaves, LeavesEither};
+ghost use Rattle.svn_disk_update.specs.Goes.{Goes};
+ghost use Rattle.svn_disk_update.specs.Places.{is_inside};
 
 use crate::carry::{carry_out, replace_database};
 use crate::fault::DiskFault;
 use crate::layout::Admin;
 use crate::node_file::{entry_of, file_of};
 use crate::source::Source;
-use crate::steps::{make_directory, make_synced, prepare, sync_directory};
 use crate::texts::{Keeper, kept_text};
 use std::alloc::Global;
 use svn_folder::{Folder, Mode, Step, SyncedFolder};
 use svn_model::BaseNode;
-use svn_types::{RelPath, Text};
+use svn_types::{Name, RelPath, Text};
 use svn_wc::WorkingCopy;
 use svn_wcdb::TableRow;
 use svn_wcrows::{
@@ -82,18 +86,43 @@ fn is_taken<F: Folder>(alloc: Global, folder: &F, admin: &Admin) -> Result<bool,
     Ok(folder.look(alloc, &admin.folder(alloc)?)?.is_some())
 }
 
-// Makes the administrative folder, with the files that older clients look for. Each name is synced before those below it, which count only then.
-fn make_admin<F: Folder>(alloc: Global, folder: &mut F, admin: &Admin) -> Result<(), DiskFault> {
-    make_directory(folder, admin.folder(alloc)?)?;
-    sync_directory(folder, &RelPath::root(alloc))?;
-    make_directory(folder, admin.pristine(alloc)?)?;
-    make_directory(folder, admin.temporary(alloc)?)?;
-    for name in ["format", "entries"] {
-        let path = admin.path(alloc, name)?;
-        let text = Text::from_slice(alloc, FORMAT)?;
-        make_synced(folder, &path, text, Mode::PLAIN, None)?;
-    }
-    sync_directory(folder, &admin.folder(alloc)?)
+// Makes a file that older clients look for.
+fn make_format<F: Folder>(
+    alloc: Global,
+    folder: &mut F,
+    admin: &Admin,
+    name: &str,
+) -> Result<(), DiskFault>
+    ensures { Goes (is_inside admin.now.name) (F.past folder.old) result (F.past folder.new) }
+{
+    let path = admin.path(alloc, name)?;
+    let text = Text::from_slice(alloc, FORMAT)?;
+    admin.make_synced(folder, &path, text, Mode::PLAIN)
+}
+
+// Makes the administrative folder, with those of the texts and of what has no name yet. Each name is synced before those below it, which count only
+// then.
+fn make_directories<F: Folder>(
+    alloc: Global,
+    folder: &mut F,
+    admin: &Admin,
+) -> Result<(), DiskFault>
+    ensures { Goes (is_inside admin.now.name) (F.past folder.old) result (F.past folder.new) }
+{
+    admin.make_directory(folder, admin.folder(alloc)?)?;
+    admin.sync_directory(folder, &RelPath::root(alloc))?;
+    admin.make_directory(folder, admin.pristine(alloc)?)?;
+    admin.make_directory(folder, admin.temporary(alloc)?)
+}
+
+// Makes the administrative folder, with the files that older clients look for.
+fn make_admin<F: Folder>(alloc: Global, folder: &mut F, admin: &Admin) -> Result<(), DiskFault>
+    ensures { Goes (is_inside admin.now.name) (F.past folder.old) result (F.past folder.new) }
+{
+    make_directories(alloc, folder, admin)?;
+    make_format(alloc, folder, admin, "format")?;
+    make_format(alloc, folder, admin, "entries")?;
+    admin.sync_directory(folder, &admin.folder(alloc)?)
 }
 
 impl Progress {
@@ -147,7 +176,9 @@ fn prepare_file<F: Folder, S: Source>(
     source: &S,
     progress: &mut Progress,
     entry: (&RelPath, &BaseNode),
-) -> Result<(), DiskFault> {
+) -> Result<(), DiskFault>
+    ensures { Goes (is_inside making.now.admin.now.name) (F.past folder.old) result (F.past folder.new) }
+{
     let (path, node) = entry;
     let Some((name, props)) = file_of(node) else {
         return Ok(());
@@ -155,7 +186,9 @@ fn prepare_file<F: Folder, S: Source>(
     let text = kept_text(making.alloc, folder, making.admin, path, name)?;
     let from = making.admin.new_file(making.alloc, progress.files)?;
     let made = entry_of(making.alloc, text, props)?;
-    let size = prepare(folder, &from, made, Some(making.time))?;
+    let size = making
+        .admin
+        .prepare(folder, &from, made, Some(making.time))?;
     progress.push_row(making, source, entry, size)?;
     progress.work.push(Work::InstallFile(path.clone()?))?;
     progress.files = progress.files.saturating_add(1);
@@ -169,7 +202,9 @@ fn prepare_node<F: Folder, S: Source>(
     source: &S,
     progress: &mut Progress,
     entry: (&RelPath, &BaseNode),
-) -> Result<(), DiskFault> {
+) -> Result<(), DiskFault>
+    ensures { Goes (is_inside making.now.admin.now.name) (F.past folder.old) result (F.past folder.new) }
+{
     let (path, node) = entry;
     if !node.is_directory() {
         return prepare_file(making, folder, source, progress, entry);
@@ -181,22 +216,49 @@ fn prepare_node<F: Folder, S: Source>(
     Ok(())
 }
 
+// Prepares each node of a copy, whose pristine texts are kept.
+fn prepare_nodes<F: Folder, S: Source>(
+    making: &Making<'_>,
+    folder: &mut F,
+    source: &S,
+    progress: &mut Progress,
+    copy: &WorkingCopy,
+) -> Result<(), DiskFault>
+    ensures { Goes (is_inside making.now.admin.now.name) (F.past folder.old) result (F.past folder.new) }
+{
+    for (path, node) in copy.iter() {
+        prepare_node(making, folder, source, progress, (path, node))?;
+    }
+    Ok(())
+}
+
+// Brings the names of the pristine texts' folders and of all prepared files to the disk.
+fn sync_prepared<F: Folder>(making: &Making<'_>, folder: &mut F) -> Result<(), DiskFault>
+    ensures { Goes (is_inside making.now.admin.now.name) (F.past folder.old) result (F.past folder.new) }
+{
+    let admin = making.admin;
+    admin.sync_directory(folder, &admin.pristine(making.alloc)?)?;
+    admin.sync_directory(folder, &admin.temporary(making.alloc)?)
+}
+
 // Brings the texts to disk, and each file under a name of its own.
 fn prepare_all<F: Folder, S: Source>(
     making: &Making<'_>,
     folder: &mut F,
     source: &mut S,
     what: &Checkout<'_>,
-) -> Result<Progress, DiskFault> {
+) -> Result<Progress, DiskFault>
+    ensures { Goes (is_inside making.now.admin.now.name) (F.past folder.old) result (F.past folder.new) }
+{
     let alloc = making.alloc;
     let mut progress = Progress::begin(alloc, what)?;
-    let mut keeper = Keeper::new(alloc, making.admin);
+    let keeper = Keeper {
+        alloc,
+        admin: making.admin,
+    };
     keeper.keep_all(folder, source, &mut progress.tables.pristine, what.copy)?;
-    for (path, node) in what.copy.iter() {
-        prepare_node(making, folder, source, &mut progress, (path, node))?;
-    }
-    sync_directory(folder, &making.admin.pristine(alloc)?)?;
-    sync_directory(folder, &making.admin.temporary(alloc)?)?;
+    prepare_nodes(making, folder, source, &mut progress, what.copy)?;
+    sync_prepared(making, folder)?;
     progress.tables.count_texts(alloc)?;
     Ok(progress)
 }
@@ -223,6 +285,64 @@ fn image_at_end(alloc: Global, progress: &mut Progress) -> Result<Vec<u8>, DiskF
     Ok(write_copy(alloc, &progress.tables, Numbers::at_end(2), &progress.nodes)?)
 }
 
+// Makes all of the copy that is in the administrative folder, and each file under a name of its own.
+fn lay_out<F: Folder, S: Source>(
+    alloc: Global,
+    folder: &mut F,
+    source: &mut S,
+    what: &Checkout<'_>,
+    admin: &Admin,
+) -> Result<Progress, DiskFault>
+    ensures { Goes (is_inside admin.now.name) (F.past folder.old) result (F.past folder.new) }
+{
+    make_admin(alloc, folder, admin)?;
+    let making = Making {
+        alloc,
+        admin,
+        inherited: what.inherited,
+        time: what.time,
+    };
+    let mut progress = prepare_all(&making, folder, source, what)?;
+    let image = image_with_work(alloc, &mut progress)?;
+    let database = admin.database(alloc)?;
+    admin.make_synced(folder, &database, Text::new(image), Mode::PLAIN)?;
+    admin.sync_directory(folder, &admin.folder(alloc)?)?;
+    Ok(progress)
+}
+
+// The same, and all of it is on the disk. Up to then a crash leaves no copy.
+fn lay_out_on_disk<F: Folder, S: Source>(
+    alloc: Global,
+    folder: &mut SyncedFolder<F>,
+    source: &mut S,
+    what: &Checkout<'_>,
+    admin: &Admin,
+) -> Result<Progress, DiskFault>
+    requires { bytes_eq admin.now.name (codes ".svn") ≡ false }
+    ensures crash { Leaves IsNoCopy (F.past folder.old.folder) (F.past folder.new.folder) }
+    ensures synced { OnOk result (IsSyncedPast (F.past folder.new.folder)) }
+{
+    let progress = lay_out(alloc, folder, source, what, admin)?;
+    if !folder.is_synced() {
+        return Err(DiskFault::NotSynced);
+    }
+    Ok(progress)
+}
+
+// The administrative folder gets its name. A crash leaves nothing there, or all that was at the old one.
+fn name_folder<F: Folder>(
+    folder: &mut SyncedFolder<F>,
+    from: Name,
+    to: Name,
+) -> Result<(), DiskFault>
+    requires synced { IsSyncedPast (F.past folder.old.folder) }
+    requires other { bytes_eq from to ≡ false }
+    ensures { LeavesEither from to (F.past folder.old.folder) (F.past folder.new.folder) }
+{
+    folder.take(Step::RenameDirectory { from, to })?;
+    Ok(())
+}
+
 /// Makes a working copy in a folder that is there.
 ///
 /// Refused before anything is changed: ACopy where it is a working copy's, InTheWay at the first path of the copy in the folder itself that is
@@ -236,32 +356,10 @@ pub fn check_out<F: Folder, S: Source>(
 ) -> Result<(), DiskFault> {
     refuse_taken(alloc, folder, what.copy)?;
     let new = Admin::of_new(alloc)?;
-    make_admin(alloc, folder, &new)?;
-    let making = Making {
-        alloc,
-        admin: &new,
-        inherited: what.inherited,
-        time: what.time,
-    };
-    let mut progress = prepare_all(&making, folder, source, what)?;
-    let image = image_with_work(alloc, &mut progress)?;
-    make_synced(
-        folder,
-        &new.database(alloc)?,
-        Text::new(image),
-        Mode::PLAIN,
-        None,
-    )?;
-    sync_directory(folder, &new.folder(alloc)?)?;
-    if !folder.is_synced() {
-        return Err(DiskFault::NotSynced);
-    }
+    let mut progress = lay_out_on_disk(alloc, folder, source, what, &new)?;
     let end = image_at_end(alloc, &mut progress)?;
     let admin = Admin::of_copy(alloc)?;
-    folder.take(Step::RenameDirectory {
-        from: new.name.clone()?,
-        to: admin.name.clone()?,
-    })?;
+    name_folder(folder, new.name.clone()?, admin.name.clone()?)?;
     carry_out(alloc, folder, &admin, &progress.work)?;
     replace_database(alloc, folder, &admin, end)
 }

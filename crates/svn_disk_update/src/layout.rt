@@ -1,4 +1,7 @@
 //! Where a working copy keeps what it knows: the names below `.svn`.
+ghost use Rattle.std.specs.Prelude.{◌≡◌, ◌∷◌, ◌++◌, [], IfOk, codes};
+ghost use Rattle.svn_types.specs.Names.{path_of_text};
+ghost use Rattle.svn_disk_update.specs.Places.{text_place, database_place, IsTemporary};
 
 use crate::fault::DiskFault;
 use std::alloc::Global;
@@ -20,70 +23,97 @@ const NEW: &str = ".svn-new";
 
 impl Admin {
     /// That of a working copy.
-    pub(crate) fn of_copy(alloc: Global) -> Result<Admin, DiskFault> {
+    pub(crate) fn of_copy(alloc: Global) -> Result<Admin, DiskFault>
+        ensures { IfOk result (λ a. a.name ≡ codes ".svn") }
+    {
         Ok(Admin {
             name: Name::parse(alloc, NAME)?,
         })
     }
 
     /// That of a copy that is made.
-    pub(crate) fn of_new(alloc: Global) -> Result<Admin, DiskFault> {
+    pub(crate) fn of_new(alloc: Global) -> Result<Admin, DiskFault>
+        ensures { IfOk result (λ a. a.name ≡ codes ".svn-new") }
+    {
         Ok(Admin {
             name: Name::parse(alloc, NEW)?,
         })
     }
 
     /// The folder itself.
-    pub(crate) fn folder(&self, alloc: Global) -> Result<RelPath, DiskFault> {
-        Ok(RelPath::root(alloc).join(alloc, &self.name)?)
+    pub(crate) fn folder(&self, alloc: Global) -> Result<RelPath, DiskFault>
+        ensures { IfOk result (λ p. p ≡ self.now.name ∷ []) }
+    {
+        let path = RelPath::root(alloc).join(alloc, &self.name)?;
+        Ok(path)
     }
 
     /// What is under a name in it.
-    pub(crate) fn path(&self, alloc: Global, name: &str) -> Result<RelPath, DiskFault> {
+    pub(crate) fn path(&self, alloc: Global, name: &str) -> Result<RelPath, DiskFault>
+        ensures { IfOk result (λ p. p ≡ self.now.name ∷ path_of_text name.now) }
+    {
         let below = RelPath::parse(alloc, name)?;
-        Ok(self.folder(alloc)?.join_path(alloc, &below)?)
+        let path = self.folder(alloc)?.join_path(alloc, &below)?;
+        Ok(path)
     }
 
     /// The database.
-    pub(crate) fn database(&self, alloc: Global) -> Result<RelPath, DiskFault> {
+    pub(crate) fn database(&self, alloc: Global) -> Result<RelPath, DiskFault>
+        ensures { IfOk result (λ p. p ≡ database_place self.now.name) }
+    {
         self.path(alloc, "wc.db")
     }
 
     /// The database, before it has its name.
-    pub(crate) fn new_database(&self, alloc: Global) -> Result<RelPath, DiskFault> {
+    pub(crate) fn new_database(&self, alloc: Global) -> Result<RelPath, DiskFault>
+        ensures { IfOk result (λ p. p ≡ self.now.name ∷ codes "tmp" ∷ codes "new-wc.db" ∷ []) }
+    {
         self.path(alloc, "tmp/new-wc.db")
     }
 
     /// The folder of what has no name yet.
-    pub(crate) fn temporary(&self, alloc: Global) -> Result<RelPath, DiskFault> {
+    pub(crate) fn temporary(&self, alloc: Global) -> Result<RelPath, DiskFault>
+        ensures { IfOk result (λ p. p ≡ self.now.name ∷ codes "tmp" ∷ []) }
+    {
         self.path(alloc, "tmp")
     }
 
     /// The folder of the pristine texts.
-    pub(crate) fn pristine(&self, alloc: Global) -> Result<RelPath, DiskFault> {
+    pub(crate) fn pristine(&self, alloc: Global) -> Result<RelPath, DiskFault>
+        ensures { IfOk result (λ p. p ≡ self.now.name ∷ codes "pristine" ∷ []) }
+    {
         self.path(alloc, "pristine")
     }
 
     /// The pristine text that a stand-in names.
-    pub(crate) fn text(&self, alloc: Global, stand_in: &[u8]) -> Result<RelPath, DiskFault> {
+    pub(crate) fn text(&self, alloc: Global, stand_in: &[u8]) -> Result<RelPath, DiskFault>
+        ensures { IfOk result (λ p. p ≡ text_place self.now.name stand_in.now) }
+    {
         let Some(below) = pristine_path(alloc, stand_in)? else {
             return Err(DiskFault::NoStandIn);
         };
         let Ok(below) = str::from_utf8(below.as_slice()) else {
             return Err(DiskFault::NoStandIn);
         };
-        let below = RelPath::parse(alloc, below)?;
-        Ok(self.pristine(alloc)?.join_path(alloc, &below)?)
+        let place = RelPath::parse(alloc, below)?;
+        let path = self.pristine(alloc)?.join_path(alloc, &place)?;
+        Ok(path)
     }
 
     /// A pristine text, before it has its name.
-    pub(crate) fn new_text(&self, alloc: Global) -> Result<RelPath, DiskFault> {
+    pub(crate) fn new_text(&self, alloc: Global) -> Result<RelPath, DiskFault>
+        ensures { IfOk result (λ p. p ≡ self.now.name ∷ codes "tmp" ∷ codes "new-text" ∷ []) }
+    {
         self.path(alloc, "tmp/new-text")
     }
 
     /// The file of that number, before it has its place.
-    pub(crate) fn new_file(&self, alloc: Global, number: usize) -> Result<RelPath, DiskFault> {
-        let name = format!(in alloc; "tmp/new-{number}")?;
-        self.path(alloc, &name)
+    pub(crate) fn new_file(&self, alloc: Global, number: usize) -> Result<RelPath, DiskFault>
+        ensures { IfOk result (λ p. IsTemporary self.now.name p) }
+    {
+        let text = format!(in alloc; "new-{number}")?;
+        let name = Name::parse(alloc, &text)?;
+        let path = self.temporary(alloc)?.join(alloc, &name)?;
+        Ok(path)
     }
 }

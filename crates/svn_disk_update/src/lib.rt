@@ -21,9 +21,16 @@
 //! | `inherited` | the properties that a copy's root inherits |
 //! | `carry` | the work of a new copy, done |
 //! | `checkout`, `existing`, `completion` | a new copy; one that is on disk; what was cut off, completed |
+//! | `inside`, `laws` | steps in the administrative folder; what a crash theorem rests on |
+//!
+//! Definitions, in the order of reading: `specs/Goes.antt` (which steps a call takes), `Places.antt` (where they are), `Laws.antt`, `Crashes.antt` (what a
+//! crash during a checkout leaves).
 //!
 //! Promises: every function is safe and returns. The databases are made by `write_copy` of `svn_wcrows`, which returns bytes only if the nodes of the copy
-//! are read from them. What is on disk afterwards, and what a crash leaves, is tested by `test_disk` at each step, and not yet proved.
+//! are read from them. Until the administrative folder of a checkout gets its name, each step is inside of the folder `.svn-new`, or is a sync
+//! (`is_inside`), and a crash leaves no copy (`IsNoCopy`). It gets its name only once all is on the disk. A crash then leaves nothing at that name, or all
+//! that was at the old one (`LeavesEither`). The database is replaced by steps inside of the administrative folder alone. What a crash leaves while the
+//! work of the new copy is done is tested by `test_disk` at each step, and not yet proved.
 #![tactic(auto)]
 
 mod carry;
@@ -32,6 +39,8 @@ mod completion;
 mod existing;
 mod fault;
 mod inherited;
+mod inside;
+mod laws;
 mod layout;
 mod node_file;
 mod source;
@@ -42,4 +51,5 @@ pub use checkout::{Checkout, check_out};
 pub use completion::resume;
 pub use fault::DiskFault;
 pub use inherited::inherited_props;
+pub use laws::a_directory_is_renamed_at_once;
 pub use source::Source;

@@ -1,10 +1,13 @@
 //! Pristine texts, brought to disk.
+ghost use Rattle.std.specs.Prelude.{◌≡◌, ◌∷◌, [], true};
+ghost use Rattle.svn_types.specs.Paths.{is_within};
+ghost use Rattle.svn_disk_update.specs.Goes.{Goes};
+ghost use Rattle.svn_disk_update.specs.Places.{is_inside};
 
 use crate::fault::DiskFault;
 use crate::layout::Admin;
 use crate::node_file::file_of;
 use crate::source::Source;
-use crate::steps::{make_directory_if_none, make_synced, rename, sync_directory};
 use std::alloc::Global;
 use std::collections::BTreeSet;
 use svn_digits::{STAND_IN_LEN, stand_in};
@@ -67,85 +70,121 @@ impl Wanted {
     }
 }
 
-/// The texts of a copy, as they come to be on disk.
-#[derive(Drop)]
+/// What the texts of a copy are brought to disk with.
+#[derive(Clone, Copy)]
 pub(crate) struct Keeper<'a> {
-    alloc: Global,
-    admin: &'a Admin,
-    // The directories whose names are new since they were synced.
+    pub(crate) alloc: Global,
+    pub(crate) admin: &'a Admin,
+}
+
+// What is left to do: the texts that are still to come, and the directories whose names are new since they were synced.
+#[derive(Drop)]
+struct Left {
+    wanted: Wanted,
     changed: BTreeSet<RelPath>,
 }
 
-impl<'a> Keeper<'a> {
-    /// Nothing is kept yet.
-    pub(crate) fn new(alloc: Global, admin: &'a Admin) -> Keeper<'a> {
-        Keeper {
-            alloc,
-            admin,
-            changed: BTreeSet::new(alloc),
+// Adds the row of a text.
+fn push_row(
+    alloc: Global,
+    rows: &mut Vec<TableRow>,
+    name: &Text,
+    text: &Text,
+) -> Result<(), DiskFault> {
+    let size = text.len() as u64;
+    let bytes = pristine_record(alloc, name.as_slice(), size, &text.checksum())?;
+    let rowid = rows.len() as u64 + 1;
+    rows.push(TableRow { rowid, bytes })?;
+    Ok(())
+}
+
+impl Keeper<'_> {
+    // Makes the directory of a text, if there is none.
+    fn make_directory<F: Folder>(&self, folder: &mut F, path: &RelPath) -> Result<(), DiskFault>
+        requires { is_within (self.now.admin.now.name ∷ []) path.now ≡ true }
+        ensures { Goes (is_inside self.now.admin.now.name) (F.past folder.old) result (F.past folder.new) }
+    {
+        let is_new = self.admin.make_directory_if_none(self.alloc, folder, path)?;
+        if !is_new {
+            return Ok(());
         }
+        let pristine = self.admin.pristine(self.alloc)?;
+        self.admin.sync_directory(folder, &pristine)
     }
 
     // Writes a text under its name.
-    fn put<F: Folder>(&mut self, folder: &mut F, name: &Text, text: Text) -> Result<(), DiskFault> {
+    fn put<F: Folder>(
+        &self,
+        folder: &mut F,
+        changed: &mut BTreeSet<RelPath>,
+        name: &Text,
+        text: Text,
+    ) -> Result<(), DiskFault>
+        ensures { Goes (is_inside self.now.admin.now.name) (F.past folder.old) result (F.past folder.new) }
+    {
         let path = self.admin.text(self.alloc, name.as_slice())?;
         let new = self.admin.new_text(self.alloc)?;
         let Some(above) = path.parent(self.alloc)? else {
             return Err(DiskFault::NoStandIn);
         };
-        if make_directory_if_none(self.alloc, folder, &above)? {
-            sync_directory(folder, &self.admin.pristine(self.alloc)?)?;
-        }
-        make_synced(folder, &new, text, PRISTINE, None)?;
-        rename(folder, &new, &path)?;
-        self.changed.insert(above)?;
+        self.make_directory(folder, &above)?;
+        self.admin.make_synced(folder, &new, text, PRISTINE)?;
+        self.admin.rename(folder, &new, &path)?;
+        changed.insert(above)?;
         Ok(())
     }
 
-    // Keeps a text, and gives it a row.
+    // Keeps a text if it is wanted, and gives it a row.
     fn keep<F: Folder>(
-        &mut self,
+        &self,
         folder: &mut F,
         rows: &mut Vec<TableRow>,
-        name: &Text,
+        left: &mut Left,
         text: Text,
-    ) -> Result<(), DiskFault> {
-        let size = text.len() as u64;
-        let bytes = pristine_record(self.alloc, name.as_slice(), size, &text.checksum())?;
-        let rowid = rows.len() as u64 + 1;
-        rows.push(TableRow { rowid, bytes })?;
-        self.put(folder, name, text)
+    ) -> Result<(), DiskFault>
+        ensures { Goes (is_inside self.now.admin.now.name) (F.past folder.old) result (F.past folder.new) }
+    {
+        let name = stand_in(self.alloc, text.as_slice())?;
+        if !left.wanted.takes(&name) {
+            return Ok(());
+        }
+        push_row(self.alloc, rows, &name, &text)?;
+        self.put(folder, &mut left.changed, &name, text)
     }
 
     /// Keeps each text that is wanted, as they come. NoText at the first file whose text doesn't come.
     pub(crate) fn keep_all<F: Folder, S: Source>(
-        &mut self,
+        &self,
         folder: &mut F,
         source: &mut S,
         rows: &mut Vec<TableRow>,
         copy: &WorkingCopy,
-    ) -> Result<(), DiskFault> {
-        let mut wanted = Wanted::by(self.alloc, copy)?;
-        for _ in 0..u64::MAX {
-            if wanted.names.is_empty() {
-                break;
+    ) -> Result<(), DiskFault>
+        ensures { Goes (is_inside self.now.admin.now.name) (F.past folder.old) result (F.past folder.new) }
+    {
+        let mut left = Left {
+            wanted: Wanted::by(self.alloc, copy)?,
+            changed: BTreeSet::new(self.alloc),
+        };
+        'texts: for _ in 0..u64::MAX {
+            if left.wanted.names.is_empty() {
+                break 'texts;
             }
             let Some(text) = source.next_text(self.alloc) else {
-                break;
+                break 'texts;
             };
-            let name = stand_in(self.alloc, text.as_slice())?;
-            if wanted.takes(&name) {
-                self.keep(folder, rows, &name, text)?;
-            }
+            self.keep(folder, rows, &mut left, text)?;
         }
-        wanted.refuse_missing(copy)?;
-        self.sync(folder)
+        left.wanted.refuse_missing(copy)?;
+        self.sync(folder, &left.changed)
     }
 
     // Brings the names of all new texts to the disk.
-    fn sync<F: Folder>(&self, folder: &mut F) -> Result<(), DiskFault> {
-        for path in &self.changed {
-            sync_directory(folder, path)?;
+    fn sync<F: Folder>(&self, folder: &mut F, changed: &BTreeSet<RelPath>) -> Result<(), DiskFault>
+        ensures { Goes (is_inside self.now.admin.now.name) (F.past folder.old) result (F.past folder.new) }
+    {
+        for path in changed {
+            self.admin.sync_directory(folder, path)?;
         }
         Ok(())
     }

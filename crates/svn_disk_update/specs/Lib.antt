@@ -1,0 +1,4 @@
+pub mod Goes
+pub mod Places
+pub mod Crashes
+pub mod Laws
