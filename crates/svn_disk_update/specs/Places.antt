@@ -1,5 +1,6 @@
 -- Where the steps of an update are.
 --     is_inside n step      what it makes, puts, renames or removes is at the name n in the folder, or below it
+--     is_sync step      it brings something to the disk, and changes nothing that is seen
 --     text_place n stand_in, database_place n      the paths of a pristine text and of the database, in the administrative folder n
 use Rattle.std.specs.Prelude.{◌≡◌, ℕ, Bool, true, false, ◌&&◌, List, [], ◌∷◌, codes}
 use Rattle.std.specs.Option.{unwrap_or}
@@ -17,6 +18,15 @@ is_inside n (Rename p q) = is_within (n ∷ []) p && is_within (n ∷ []) q
 is_inside n (RenameDirectory k m) = false
 is_inside n (RemoveFile p) = is_within (n ∷ []) p
 is_inside n (RemoveDirectory p) = is_within (n ∷ []) p
+
+abbrev pub is_sync : Step → Bool
+is_sync (Make p e t) = false
+is_sync (SyncFile p) = true
+is_sync (SyncDirectory p) = true
+is_sync (Rename p q) = false
+is_sync (RenameDirectory k m) = false
+is_sync (RemoveFile p) = false
+is_sync (RemoveDirectory p) = false
 
 -- ---- what is in the administrative folder, by its name
 

@@ -4,50 +4,22 @@ ghost use Rattle.svn_disk_update.specs.Places.{is_inside};
 
 use crate::fault::DiskFault;
 use crate::layout::Admin;
-use crate::steps::{make_directory_if_none, rename, sync_directory};
+use crate::steps::{make_directory_if_none, rename, take};
 use std::alloc::Global;
 use std::collections::BTreeSet;
-use svn_folder::{Folder, Mode};
+use svn_folder::{Entry, Folder, Mode, Step};
 use svn_types::{RelPath, Text};
 use svn_wcrows::Work;
-
-// The directories in which a name is new since they were synced.
-#[derive(Drop)]
-struct Changed {
-    alloc: Global,
-    paths: BTreeSet<RelPath>,
-}
-
-impl Changed {
-    // Notes that of a path.
-    fn note(&mut self, path: &RelPath) -> Result<(), DiskFault> {
-        if let Some(parent) = path.parent(self.alloc)? {
-            self.paths.insert(parent)?;
-        }
-        Ok(())
-    }
-
-    // From above, since a directory's names are on the disk only if its own is.
-    fn sync<F: Folder>(&self, folder: &mut F) -> Result<(), DiskFault> {
-        for path in &self.paths {
-            sync_directory(folder, path)?;
-        }
-        Ok(())
-    }
-}
 
 // Makes the directories, which come from above.
 fn make_directories<F: Folder>(
     alloc: Global,
     folder: &mut F,
     work: &[Work],
-    changed: &mut Changed,
 ) -> Result<(), DiskFault> {
     for item in work {
         if let Work::MakeDirectory(path) = item {
-            if make_directory_if_none(alloc, folder, path)? {
-                changed.note(path)?;
-            }
+            make_directory_if_none(alloc, folder, path)?;
         }
     }
     Ok(())
@@ -59,41 +31,60 @@ fn place_files<F: Folder>(
     folder: &mut F,
     admin: &Admin,
     work: &[Work],
-    changed: &mut Changed,
 ) -> Result<(), DiskFault> {
     let mut number = 0usize;
     for item in work {
         if let Work::InstallFile(path) = item {
             rename(folder, &admin.new_file(alloc, number)?, path)?;
-            changed.note(path)?;
             number = number.saturating_add(1);
         }
     }
     Ok(())
 }
 
-/// Does the work of a new copy, whose files have names of their own, and brings all names to the disk.
+// The directories in which the work is.
+fn parents(alloc: Global, work: &[Work]) -> Result<BTreeSet<RelPath>, DiskFault> {
+    let mut parents = BTreeSet::new(alloc);
+    for item in work {
+        if let Some(parent) = item.path().parent(alloc)? {
+            parents.insert(parent)?;
+        }
+    }
+    Ok(parents)
+}
+
+// Brings all names to the disk, from above, since a directory's names are on the disk only if its own is. Some of them an earlier run may have made,
+// which was cut off, so that nothing is known of them.
+fn sync_names<F: Folder>(alloc: Global, folder: &mut F, work: &[Work]) -> Result<(), DiskFault> {
+    for path in &parents(alloc, work)? {
+        take(folder, Step::SyncDirectory(path.clone()?))?;
+    }
+    Ok(())
+}
+
+/// Does the work of a new copy, whose files have names of their own, and brings all names to the disk if `sync` says so.
 pub(crate) fn carry_out<F: Folder>(
     alloc: Global,
     folder: &mut F,
     admin: &Admin,
     work: &[Work],
+    sync: bool,
 ) -> Result<(), DiskFault> {
-    let mut changed = Changed {
-        alloc,
-        paths: BTreeSet::new(alloc),
-    };
-    make_directories(alloc, folder, work, &mut changed)?;
-    place_files(alloc, folder, admin, work, &mut changed)?;
-    changed.sync(folder)
+    make_directories(alloc, folder, work)?;
+    place_files(alloc, folder, admin, work)?;
+    if sync {
+        sync_names(alloc, folder, work)?;
+    }
+    Ok(())
 }
 
-/// Puts a database in place of the one that is there.
+/// Puts a database in place of the one that is there; with `sync` its bytes are on the disk before, and its name after.
 pub(crate) fn replace_database<F: Folder>(
     alloc: Global,
     folder: &mut F,
     admin: &Admin,
     image: Vec<u8>,
+    sync: bool,
 ) -> Result<(), DiskFault>
     ensures { Goes (is_inside admin.now.name) (F.past folder.old) result (F.past folder.new) }
 {
@@ -101,7 +92,13 @@ pub(crate) fn replace_database<F: Folder>(
     let database = admin.database(alloc)?;
     let above = admin.folder(alloc)?;
     admin.remove_if_any(alloc, folder, &new)?;
-    admin.make_synced(folder, &new, Text::new(image), Mode::PLAIN)?;
+    admin.make(folder, new.clone()?, Entry::File(Text::new(image), Mode::PLAIN))?;
+    if sync {
+        take(folder, Step::SyncFile(new.clone()?))?;
+    }
     admin.rename(folder, &new, &database)?;
-    admin.sync_directory(folder, &above)
+    if sync {
+        take(folder, Step::SyncDirectory(above))?;
+    }
+    Ok(())
 }

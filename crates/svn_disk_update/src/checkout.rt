@@ -1,5 +1,5 @@
 //! A working copy, made anew.
-ghost use Rattle.std.specs.Prelude.{◌≡◌, bytes_eq, codes, false, OnOk};
+ghost use Rattle.std.specs.Prelude.{◌≡◌, bytes_eq, codes, true, false, OnOk};
 ghost use Rattle.svn_folder.specs.Syncing.{IsSyncedPast};
 ghost use Rattle.svn_disk_update.specs.Crashes.{IsNoCopy, Leaves, LeavesEither};
 ghost use Rattle.svn_disk_update.specs.Goes.{Goes};
@@ -7,12 +7,14 @@ ghost use Rattle.svn_disk_update.specs.Places.{is_inside};
 
 use crate::carry::{carry_out, replace_database};
 use crate::fault::DiskFault;
-use crate::layout::Admin;
-use crate::node_file::{entry_of, file_of};
+use crate::layout::{Admin, is_reserved};
+use crate::node_file::file_of;
+use crate::prepared::{Prepared, prepare};
+use crate::settle::settle;
 use crate::source::Source;
-use crate::texts::{Keeper, kept_text};
-use std::alloc::Global;
-use svn_folder::{Folder, Mode, Step, SyncedFolder};
+use crate::texts::Texts;
+use std::alloc::{AllocError, Global};
+use svn_folder::{Entry, Folder, Mode, Step, SyncedFolder};
 use svn_model::BaseNode;
 use svn_types::{Name, RelPath, Text};
 use svn_wc::WorkingCopy;
@@ -44,12 +46,16 @@ pub struct Checkout<'a> {
     pub inherited: Option<&'a [u8]>,
     /// The time of its files, in microseconds since 1970.
     pub time: u64,
+    /// Whether everything is brought to the disk, each time before it counts. Without that a loss of power may leave anything, and the end of the program
+    /// what it leaves with it.
+    pub sync: bool,
 }
 
 // What a checkout has done so far.
 #[derive(Drop)]
 struct Progress {
     tables: Tables,
+    texts: Texts,
     nodes: Vec<(RelPath, BaseNode)>,
     work: Vec<Work>,
     // How many files have names of their own.
@@ -63,6 +69,16 @@ struct Making<'a> {
     admin: &'a Admin,
     inherited: Option<&'a [u8]>,
     time: u64,
+}
+
+/// Refuses a copy with a node named as the administrative folder is, whose files would come to lie in it: Reserved. Subversion refuses it too.
+pub fn refuse_reserved(copy: &WorkingCopy) -> Result<(), DiskFault> {
+    for (path, _) in copy.iter() {
+        if is_reserved(path) {
+            return Err(DiskFault::Reserved(path.clone()?));
+        }
+    }
+    Ok(())
 }
 
 // Refuses a folder that is a copy's, or in which something is where the copy would have a node: of each name in the folder itself.
@@ -97,38 +113,25 @@ fn make_format<F: Folder>(
 {
     let path = admin.path(alloc, name)?;
     let text = Text::from_slice(alloc, FORMAT)?;
-    admin.make_synced(folder, &path, text, Mode::PLAIN)
+    admin.make(folder, path, Entry::File(text, Mode::PLAIN))
 }
 
-// Makes the administrative folder, with those of the texts and of what has no name yet. Each name is synced before those below it, which count only
-// then.
-fn make_directories<F: Folder>(
-    alloc: Global,
-    folder: &mut F,
-    admin: &Admin,
-) -> Result<(), DiskFault>
-    ensures { Goes (is_inside admin.now.name) (F.past folder.old) result (F.past folder.new) }
-{
-    admin.make_directory(folder, admin.folder(alloc)?)?;
-    admin.sync_directory(folder, &RelPath::root(alloc))?;
-    admin.make_directory(folder, admin.pristine(alloc)?)?;
-    admin.make_directory(folder, admin.temporary(alloc)?)
-}
-
-// Makes the administrative folder, with the files that older clients look for.
+// Makes the administrative folder, with those of the texts and of what has no name yet, and the files that older clients look for.
 fn make_admin<F: Folder>(alloc: Global, folder: &mut F, admin: &Admin) -> Result<(), DiskFault>
     ensures { Goes (is_inside admin.now.name) (F.past folder.old) result (F.past folder.new) }
 {
-    make_directories(alloc, folder, admin)?;
+    admin.make(folder, admin.folder(alloc)?, Entry::Directory)?;
+    admin.make(folder, admin.pristine(alloc)?, Entry::Directory)?;
+    admin.make(folder, admin.temporary(alloc)?, Entry::Directory)?;
     make_format(alloc, folder, admin, "format")?;
-    make_format(alloc, folder, admin, "entries")?;
-    admin.sync_directory(folder, &admin.folder(alloc)?)
+    make_format(alloc, folder, admin, "entries")
 }
 
 impl Progress {
     fn begin(alloc: Global, what: &Checkout<'_>) -> Result<Progress, DiskFault> {
         Ok(Progress {
             tables: Tables::new(alloc, what.url, what.uuid)?,
+            texts: Texts::new(alloc),
             nodes: Vec::new(alloc),
             work: Vec::new(alloc),
             files: 0,
@@ -144,8 +147,12 @@ impl Progress {
         size: Option<u64>,
     ) -> Result<(), DiskFault> {
         let (path, node) = entry;
+        let change = match last_change(making.alloc, source, node) {
+            Ok(change) => change,
+            Err(_) => return Err(DiskFault::Memory),
+        };
         let recorded = Recorded {
-            change: last_change(source, node),
+            change,
             size_and_time: size.map(|size| (size, making.time)),
             inherited: if path.is_root() {
                 making.inherited
@@ -162,18 +169,22 @@ impl Progress {
 }
 
 // The last change of a node, if it is known.
-fn last_change<'a, S: Source>(source: &'a S, node: &BaseNode) -> Option<LastChange<'a>> {
+fn last_change<'a, S: Source>(
+    alloc: Global,
+    source: &'a S,
+    node: &BaseNode,
+) -> Result<Option<LastChange<'a>>, AllocError> {
     match (node.rev(), node.repos_path()) {
-        (Some(rev), Some(repos_path)) => source.last_change(rev, repos_path),
-        _ => None,
+        (Some(rev), Some(repos_path)) => source.last_change(alloc, rev, repos_path),
+        _ => Ok(None),
     }
 }
 
-// Prepares a file, whose pristine text is kept.
+// Keeps the text of a file, and prepares the file.
 fn prepare_file<F: Folder, S: Source>(
     making: &Making<'_>,
     folder: &mut F,
-    source: &S,
+    source: &mut S,
     progress: &mut Progress,
     entry: (&RelPath, &BaseNode),
 ) -> Result<(), DiskFault>
@@ -183,12 +194,17 @@ fn prepare_file<F: Folder, S: Source>(
     let Some((name, props)) = file_of(node) else {
         return Ok(());
     };
-    let text = kept_text(making.alloc, folder, making.admin, path, name)?;
-    let from = making.admin.new_file(making.alloc, progress.files)?;
-    let made = entry_of(making.alloc, text, props)?;
-    let size = making
-        .admin
-        .prepare(folder, &from, made, Some(making.time))?;
+    let rows = &mut progress.tables.pristine;
+    let size = progress
+        .texts
+        .keep(folder, source, making.admin, rows, (path, name))?;
+    let file = Prepared {
+        name,
+        props,
+        time: Some(making.time),
+    };
+    let is_file = prepare(making.alloc, folder, making.admin, progress.files, &file)?;
+    let size = if is_file { Some(size) } else { None };
     progress.push_row(making, source, entry, size)?;
     progress.work.push(Work::InstallFile(path.clone()?))?;
     progress.files = progress.files.saturating_add(1);
@@ -199,7 +215,7 @@ fn prepare_file<F: Folder, S: Source>(
 fn prepare_node<F: Folder, S: Source>(
     making: &Making<'_>,
     folder: &mut F,
-    source: &S,
+    source: &mut S,
     progress: &mut Progress,
     entry: (&RelPath, &BaseNode),
 ) -> Result<(), DiskFault>
@@ -216,32 +232,7 @@ fn prepare_node<F: Folder, S: Source>(
     Ok(())
 }
 
-// Prepares each node of a copy, whose pristine texts are kept.
-fn prepare_nodes<F: Folder, S: Source>(
-    making: &Making<'_>,
-    folder: &mut F,
-    source: &S,
-    progress: &mut Progress,
-    copy: &WorkingCopy,
-) -> Result<(), DiskFault>
-    ensures { Goes (is_inside making.now.admin.now.name) (F.past folder.old) result (F.past folder.new) }
-{
-    for (path, node) in copy.iter() {
-        prepare_node(making, folder, source, progress, (path, node))?;
-    }
-    Ok(())
-}
-
-// Brings the names of the pristine texts' folders and of all prepared files to the disk.
-fn sync_prepared<F: Folder>(making: &Making<'_>, folder: &mut F) -> Result<(), DiskFault>
-    ensures { Goes (is_inside making.now.admin.now.name) (F.past folder.old) result (F.past folder.new) }
-{
-    let admin = making.admin;
-    admin.sync_directory(folder, &admin.pristine(making.alloc)?)?;
-    admin.sync_directory(folder, &admin.temporary(making.alloc)?)
-}
-
-// Brings the texts to disk, and each file under a name of its own.
+// Brings the texts to the folder, and each file under a name of its own.
 fn prepare_all<F: Folder, S: Source>(
     making: &Making<'_>,
     folder: &mut F,
@@ -250,16 +241,11 @@ fn prepare_all<F: Folder, S: Source>(
 ) -> Result<Progress, DiskFault>
     ensures { Goes (is_inside making.now.admin.now.name) (F.past folder.old) result (F.past folder.new) }
 {
-    let alloc = making.alloc;
-    let mut progress = Progress::begin(alloc, what)?;
-    let keeper = Keeper {
-        alloc,
-        admin: making.admin,
-    };
-    keeper.keep_all(folder, source, &mut progress.tables.pristine, what.copy)?;
-    prepare_nodes(making, folder, source, &mut progress, what.copy)?;
-    sync_prepared(making, folder)?;
-    progress.tables.count_texts(alloc)?;
+    let mut progress = Progress::begin(making.alloc, what)?;
+    for (path, node) in what.copy.iter() {
+        prepare_node(making, folder, source, &mut progress, (path, node))?;
+    }
+    progress.tables.count_texts(making.alloc)?;
     Ok(progress)
 }
 
@@ -305,8 +291,7 @@ fn lay_out<F: Folder, S: Source>(
     let mut progress = prepare_all(&making, folder, source, what)?;
     let image = image_with_work(alloc, &mut progress)?;
     let database = admin.database(alloc)?;
-    admin.make_synced(folder, &database, Text::new(image), Mode::PLAIN)?;
-    admin.sync_directory(folder, &admin.folder(alloc)?)?;
+    admin.make(folder, database, Entry::File(Text::new(image), Mode::PLAIN))?;
     Ok(progress)
 }
 
@@ -320,12 +305,10 @@ fn lay_out_on_disk<F: Folder, S: Source>(
 ) -> Result<Progress, DiskFault>
     requires { bytes_eq admin.now.name (codes ".svn") ≡ false }
     ensures crash { Leaves IsNoCopy (F.past folder.old.folder) (F.past folder.new.folder) }
-    ensures synced { OnOk result (IsSyncedPast (F.past folder.new.folder)) }
+    ensures synced { what.now.sync ≡ true → OnOk result (IsSyncedPast (F.past folder.new.folder)) }
 {
     let progress = lay_out(alloc, folder, source, what, admin)?;
-    if !folder.is_synced() {
-        return Err(DiskFault::NotSynced);
-    }
+    settle(alloc, folder, what.sync)?;
     Ok(progress)
 }
 
@@ -335,9 +318,8 @@ fn name_folder<F: Folder>(
     from: Name,
     to: Name,
 ) -> Result<(), DiskFault>
-    requires synced { IsSyncedPast (F.past folder.old.folder) }
-    requires other { bytes_eq from to ≡ false }
-    ensures { LeavesEither from to (F.past folder.old.folder) (F.past folder.new.folder) }
+    requires { bytes_eq from to ≡ false }
+    ensures { IsSyncedPast (F.past folder.old.folder) → LeavesEither from to (F.past folder.old.folder) (F.past folder.new.folder) }
 {
     folder.take(Step::RenameDirectory { from, to })?;
     Ok(())
@@ -345,21 +327,23 @@ fn name_folder<F: Folder>(
 
 /// Makes a working copy in a folder that is there.
 ///
-/// Refused before anything is changed: ACopy where it is a working copy's, InTheWay at the first path of the copy in the folder itself that is
-/// taken. Then NoText at the first file whose text isn't given, Folder where a step fails, Rows, Path and Memory. Before the administrative folder has
-/// its name there is no copy; from then on there is the whole copy, with work left that `svn cleanup` does too.
+/// Refused before anything is changed: Reserved at the first node named `.svn`, ACopy where the folder is a working copy's, CutOff where a checkout was
+/// cut off, InTheWay at the first path of the copy in the folder itself that is taken. Then NoText at the first file whose text isn't given, NoStandIn
+/// where a text is no stand-in by SHA-1, Folder where a step fails, Rows, Path and Memory. Before the administrative folder has its name there is no
+/// copy; from then on there is the whole copy, with work left that `svn cleanup` does too.
 pub fn check_out<F: Folder, S: Source>(
     alloc: Global,
     folder: &mut SyncedFolder<F>,
     source: &mut S,
     what: &Checkout<'_>,
 ) -> Result<(), DiskFault> {
+    refuse_reserved(what.copy)?;
     refuse_taken(alloc, folder, what.copy)?;
     let new = Admin::of_new(alloc)?;
     let mut progress = lay_out_on_disk(alloc, folder, source, what, &new)?;
     let end = image_at_end(alloc, &mut progress)?;
     let admin = Admin::of_copy(alloc)?;
     name_folder(folder, new.name.clone()?, admin.name.clone()?)?;
-    carry_out(alloc, folder, &admin, &progress.work)?;
-    replace_database(alloc, folder, &admin, end)
+    carry_out(alloc, folder, &admin, &progress.work, what.sync)?;
+    replace_database(alloc, folder, &admin, end, what.sync)
 }

@@ -24,8 +24,11 @@ pub enum DiskFault {
     #[error("no working copy")]
     NoCopy,
     /// A checkout was cut off here before there was a copy. Nothing was changed.
-    #[error("a checkout was cut off: remove .svn-new")]
+    #[error("a checkout was cut off: `svncopy resume` removes what it left")]
     CutOff,
+    /// A node has the name of the administrative folder. Nothing was changed.
+    #[error("{0}: no node of a working copy may have the name .svn")]
+    Reserved(RelPath),
     /// The copy is locked, or has work left that isn't this library's, or that a client has changed since. Nothing was changed.
     #[error("locked, or with unfinished work of a client: run `svn cleanup`")]
     Foreign,
@@ -41,7 +44,7 @@ pub enum DiskFault {
     /// A node's text is no stand-in by SHA-1.
     #[error("a text is no checksum")]
     NoStandIn,
-    /// Not all was on the disk when the copy was to come to be. This is a fault of this crate.
+    /// Not all was on the disk before it counted. This is a fault of this crate.
     #[error("not all of it is on the disk")]
     NotSynced,
     /// The folder refuses a step, or fails.

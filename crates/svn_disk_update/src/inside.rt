@@ -6,22 +6,24 @@ ghost use Rattle.svn_disk_update.specs.Places.{is_inside};
 
 use crate::fault::DiskFault;
 use crate::layout::Admin;
+use crate::source::Source;
 use crate::steps;
 use std::alloc::Global;
 use svn_folder::{Entry, Folder, Mode};
-use svn_types::{RelPath, Text};
+use svn_types::RelPath;
 
 impl Admin {
-    /// Makes a directory.
-    pub(crate) fn make_directory<F: Folder>(
+    /// Makes an entry.
+    pub(crate) fn make<F: Folder>(
         &self,
         folder: &mut F,
         path: RelPath,
+        entry: Entry,
     ) -> Result<(), DiskFault>
         requires { is_within (self.now.name ∷ []) path ≡ true }
         ensures { Goes (is_inside self.now.name) (F.past folder.old) result (F.past folder.new) }
     {
-        steps::make_directory(folder, path)
+        steps::make(folder, path, entry)
     }
 
     /// Makes a directory, if nothing is there.
@@ -30,39 +32,42 @@ impl Admin {
         alloc: Global,
         folder: &mut F,
         path: &RelPath,
-    ) -> Result<bool, DiskFault>
+    ) -> Result<(), DiskFault>
         requires { is_within (self.now.name ∷ []) path.now ≡ true }
         ensures { Goes (is_inside self.now.name) (F.past folder.old) result (F.past folder.new) }
     {
         steps::make_directory_if_none(alloc, folder, path)
     }
 
-    /// Makes a file that isn't a program and brings its bytes to the disk.
-    pub(crate) fn make_synced<F: Folder>(
+    /// Makes a file of the text that a source has begun.
+    pub(crate) fn make_text<F: Folder, S: Source>(
         &self,
+        alloc: Global,
         folder: &mut F,
         path: &RelPath,
-        bytes: Text,
         mode: Mode,
+        source: &mut S,
     ) -> Result<(), DiskFault>
         requires { is_within (self.now.name ∷ []) path.now ≡ true }
         ensures { Goes (is_inside self.now.name) (F.past folder.old) result (F.past folder.new) }
     {
-        steps::make_synced(folder, path, bytes, mode, None)
+        Ok(folder.make_file(alloc, path, mode, None, source)?)
     }
 
-    /// Makes a file or a link under a name of its own, and returns the size in bytes that is recorded of a file.
-    pub(crate) fn prepare<F: Folder>(
+    /// Makes a file with the bytes of another one.
+    pub(crate) fn copy_file<F: Folder>(
         &self,
+        alloc: Global,
         folder: &mut F,
-        path: &RelPath,
-        entry: Entry,
+        from: &RelPath,
+        to: &RelPath,
+        mode: Mode,
         modified: Option<u64>,
-    ) -> Result<Option<u64>, DiskFault>
-        requires { is_within (self.now.name ∷ []) path.now ≡ true }
+    ) -> Result<(), DiskFault>
+        requires { is_within (self.now.name ∷ []) to.now ≡ true }
         ensures { Goes (is_inside self.now.name) (F.past folder.old) result (F.past folder.new) }
     {
-        steps::prepare(folder, path, entry, modified)
+        Ok(folder.copy_file(alloc, from, to, mode, modified)?)
     }
 
     /// Gives a file another path.
@@ -90,16 +95,5 @@ impl Admin {
         ensures { Goes (is_inside self.now.name) (F.past folder.old) result (F.past folder.new) }
     {
         steps::remove_if_any(alloc, folder, path)
-    }
-
-    /// Brings the names in a directory to the disk, be it anywhere.
-    pub(crate) fn sync_directory<F: Folder>(
-        &self,
-        folder: &mut F,
-        path: &RelPath,
-    ) -> Result<(), DiskFault>
-        ensures { Goes (is_inside self.now.name) (F.past folder.old) result (F.past folder.new) }
-    {
-        steps::sync_directory(folder, path)
     }
 }

@@ -21,6 +21,11 @@ const NAME: &str = ".svn";
 /// The name that it has while a copy is made: a client takes no folder for a copy's before it has its name.
 const NEW: &str = ".svn-new";
 
+/// Whether a path has the name of the administrative folder in it.
+pub(crate) fn is_reserved(path: &RelPath) -> bool {
+    path.components().iter().any(|name| name.as_str() == NAME)
+}
+
 impl Admin {
     /// That of a working copy.
     pub(crate) fn of_copy(alloc: Global) -> Result<Admin, DiskFault>

@@ -1,7 +1,7 @@
 //! What a file of a working copy is on disk, by its text and its properties (`svn_props.h`).
 
 use std::alloc::{AllocError, Global};
-use svn_folder::{Entry, Mode};
+use svn_folder::Mode;
 use svn_model::BaseNode;
 use svn_types::{Props, Text};
 
@@ -21,23 +21,16 @@ pub(crate) fn mode_of(props: &Props) -> Mode {
     }
 }
 
-// The target of a symbolic link, if it is one.
-fn link_target(alloc: Global, text: &Text, props: &Props) -> Result<Option<Text>, AllocError> {
-    if !has(props, "svn:special") {
-        return Ok(None);
-    }
+/// Whether a file is a symbolic link on disk, if its text says of which: the property `svn:special`.
+pub(crate) fn is_special(props: &Props) -> bool {
+    has(props, "svn:special")
+}
+
+/// The target of the symbolic link that a text says, if it does.
+pub(crate) fn link_target(alloc: Global, text: &Text) -> Result<Option<Text>, AllocError> {
     match text.as_slice().strip_prefix(LINK) {
         Some(target) => Ok(Some(Text::from_slice(alloc, target)?)),
         None => Ok(None),
-    }
-}
-
-/// What a file with that text and these properties is on disk: a link with `svn:special`, and else its text as it is, in its mode. Keywords and line
-/// ends stay as they are in the repository.
-pub(crate) fn entry_of(alloc: Global, text: Text, props: &Props) -> Result<Entry, AllocError> {
-    match link_target(alloc, &text, props)? {
-        Some(target) => Ok(Entry::Link(target)),
-        None => Ok(Entry::File(text, mode_of(props))),
     }
 }
 

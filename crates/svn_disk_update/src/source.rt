@@ -1,14 +1,21 @@
 //! Where texts, and what is recorded of nodes, come from.
 
-use std::alloc::Global;
-use svn_types::{RelPath, Rev, Text};
+use std::alloc::{AllocError, Global};
+use svn_folder::Pieces;
+use svn_types::{Digest, RelPath, Rev, Sha1Sum};
 use svn_wcrows::LastChange;
 
-/// What is known of a history beside its tree: its texts, one after another, and each node's last change.
-pub trait Source {
-    /// The next text, with all its bytes; none after the last, or where no more can be read. It may be any: which text it is, is seen by its checksum.
-    fn next_text(&mut self, alloc: Global) -> Option<Text>;
+/// What is known of a history beside its tree: its texts, piece by piece, and each node's last change.
+pub trait Source: Pieces {
+    /// Begins the text with this SHA-1 checksum, whose pieces come next, and returns its MD5 checksum; none if the text isn't given. The pieces may be
+    /// any: whether they are the text is seen by their checksum.
+    fn begin_text(&mut self, sha1: &Sha1Sum) -> Option<Digest>;
 
-    /// The last change of the node at a path of a revision, if it is known.
-    fn last_change(&self, rev: Rev, path: &RelPath) -> Option<LastChange<'_>>;
+    /// The last change of the node at a path of a revision, if it is known. Take the result apart by `match`.
+    fn last_change(
+        &self,
+        alloc: Global,
+        rev: Rev,
+        path: &RelPath,
+    ) -> Result<Option<LastChange<'_>>, AllocError>;
 }

@@ -1,19 +1,15 @@
 //! Pristine texts, brought to disk.
-ghost use Rattle.std.specs.Prelude.{◌≡◌, ◌∷◌, [], true};
-ghost use Rattle.svn_types.specs.Paths.{is_within};
 ghost use Rattle.svn_disk_update.specs.Goes.{Goes};
 ghost use Rattle.svn_disk_update.specs.Places.{is_inside};
 
 use crate::fault::DiskFault;
 use crate::layout::Admin;
-use crate::node_file::file_of;
 use crate::source::Source;
 use std::alloc::Global;
-use std::collections::BTreeSet;
-use svn_digits::{STAND_IN_LEN, stand_in};
-use svn_folder::{Entry, Folder, Mode};
-use svn_types::{RelPath, Text};
-use svn_wc::WorkingCopy;
+use std::collections::BTreeMap;
+use svn_digits::stand_in_of;
+use svn_folder::{Folder, Mode, Summary};
+use svn_types::{Digest, RelPath, Sha1Sum, Text};
 use svn_wcdb::TableRow;
 use svn_wcrows::pristine_record;
 
@@ -23,194 +19,118 @@ const PRISTINE: Mode = Mode {
     read_only: true,
 };
 
-// A stand-in, as the texts are known by.
-fn word_of(name: &[u8]) -> Option<[u8; STAND_IN_LEN]> {
-    <[u8; STAND_IN_LEN]>::try_from(name).ok()
-}
-
-/// The texts that a copy is to keep: each by the stand-in that names it.
-#[derive(Drop)]
-pub(crate) struct Wanted {
-    names: BTreeSet<[u8; STAND_IN_LEN]>,
-}
-
-impl Wanted {
-    /// Those of a copy's files. NoStandIn where a file's text is none.
-    pub(crate) fn by(alloc: Global, copy: &WorkingCopy) -> Result<Wanted, DiskFault> {
-        let mut names = BTreeSet::new(alloc);
-        for (_, node) in copy.iter() {
-            if let Some((name, _)) = file_of(node) {
-                match word_of(name.as_slice()) {
-                    Some(word) => names.insert(word)?,
-                    None => return Err(DiskFault::NoStandIn),
-                };
-            }
-        }
-        Ok(Wanted { names })
+/// The checksum that a stand-in is of. NoStandIn where it is none.
+pub(crate) fn sum_of(alloc: Global, name: &Text) -> Result<Sha1Sum, DiskFault> {
+    let Some(digits) = name.as_slice().strip_prefix(b"$sha1$") else {
+        return Err(DiskFault::NoStandIn);
+    };
+    let mut sum = [0; 20];
+    if hex::decode_to_slice(digits, &mut sum).is_err() {
+        return Err(DiskFault::NoStandIn);
     }
-
-    /// Whether a text is wanted, which is none once it is kept.
-    fn takes(&mut self, name: &Text) -> bool {
-        match word_of(name.as_slice()) {
-            Some(word) => self.names.remove(&word),
-            None => false,
-        }
-    }
-
-    /// Refuses the first file of a copy whose text is still wanted.
-    fn refuse_missing(&self, copy: &WorkingCopy) -> Result<(), DiskFault> {
-        for (path, node) in copy.iter() {
-            if let Some((name, _)) = file_of(node) {
-                if word_of(name.as_slice()).is_some_and(|word| self.names.contains(&word)) {
-                    return Err(DiskFault::NoText(path.clone()?));
-                }
-            }
-        }
-        Ok(())
+    // upper-case digits would be taken too
+    if stand_in_of(alloc, &sum)? == *name {
+        Ok(Sha1Sum(sum))
+    } else {
+        Err(DiskFault::NoStandIn)
     }
 }
 
-/// What the texts of a copy are brought to disk with.
-#[derive(Clone, Copy)]
-pub(crate) struct Keeper<'a> {
-    pub(crate) alloc: Global,
-    pub(crate) admin: &'a Admin,
-}
-
-// What is left to do: the texts that are still to come, and the directories whose names are new since they were synced.
-#[derive(Drop)]
-struct Left {
-    wanted: Wanted,
-    changed: BTreeSet<RelPath>,
-}
-
-// Adds the row of a text.
-fn push_row(
+/// The size in bytes of the file at a place in the folder, if it has this checksum.
+pub(crate) fn size_at<F: Folder>(
     alloc: Global,
-    rows: &mut Vec<TableRow>,
-    name: &Text,
-    text: &Text,
-) -> Result<(), DiskFault> {
-    let size = text.len() as u64;
-    let bytes = pristine_record(alloc, name.as_slice(), size, &text.checksum())?;
-    let rowid = rows.len() as u64 + 1;
-    rows.push(TableRow { rowid, bytes })?;
-    Ok(())
+    folder: &F,
+    place: &RelPath,
+    sum: &Sha1Sum,
+) -> Result<Option<u64>, DiskFault> {
+    Ok(match folder.sum(alloc, place)? {
+        Some(Summary::File { len, sha1, .. }) if sha1 == *sum => Some(len),
+        _ => None,
+    })
 }
 
-impl Keeper<'_> {
-    // Makes the directory of a text, if there is none.
-    fn make_directory<F: Folder>(&self, folder: &mut F, path: &RelPath) -> Result<(), DiskFault>
-        requires { is_within (self.now.admin.now.name ∷ []) path.now ≡ true }
-        ensures { Goes (is_inside self.now.admin.now.name) (F.past folder.old) result (F.past folder.new) }
-    {
-        let is_new = self.admin.make_directory_if_none(self.alloc, folder, path)?;
-        if !is_new {
-            return Ok(());
+/// The texts that a copy keeps: their sizes in bytes, by their checksums.
+#[derive(Drop)]
+pub(crate) struct Texts {
+    alloc: Global,
+    sizes: BTreeMap<[u8; 20], u64>,
+}
+
+impl Texts {
+    /// None is kept yet.
+    pub(crate) fn new(alloc: Global) -> Texts {
+        Texts {
+            alloc,
+            sizes: BTreeMap::new(alloc),
         }
-        let pristine = self.admin.pristine(self.alloc)?;
-        self.admin.sync_directory(folder, &pristine)
     }
 
-    // Writes a text under its name.
-    fn put<F: Folder>(
-        &self,
-        folder: &mut F,
-        changed: &mut BTreeSet<RelPath>,
-        name: &Text,
-        text: Text,
-    ) -> Result<(), DiskFault>
-        ensures { Goes (is_inside self.now.admin.now.name) (F.past folder.old) result (F.past folder.new) }
-    {
-        let path = self.admin.text(self.alloc, name.as_slice())?;
-        let new = self.admin.new_text(self.alloc)?;
-        let Some(above) = path.parent(self.alloc)? else {
-            return Err(DiskFault::NoStandIn);
-        };
-        self.make_directory(folder, &above)?;
-        self.admin.make_synced(folder, &new, text, PRISTINE)?;
-        self.admin.rename(folder, &new, &path)?;
-        changed.insert(above)?;
-        Ok(())
-    }
-
-    // Keeps a text if it is wanted, and gives it a row.
-    fn keep<F: Folder>(
-        &self,
-        folder: &mut F,
-        rows: &mut Vec<TableRow>,
-        left: &mut Left,
-        text: Text,
-    ) -> Result<(), DiskFault>
-        ensures { Goes (is_inside self.now.admin.now.name) (F.past folder.old) result (F.past folder.new) }
-    {
-        let name = stand_in(self.alloc, text.as_slice())?;
-        if !left.wanted.takes(&name) {
-            return Ok(());
-        }
-        push_row(self.alloc, rows, &name, &text)?;
-        self.put(folder, &mut left.changed, &name, text)
-    }
-
-    /// Keeps each text that is wanted, as they come. NoText at the first file whose text doesn't come.
-    pub(crate) fn keep_all<F: Folder, S: Source>(
+    // Writes a text under its name, and returns its size. NoText where it isn't the one that is named.
+    fn put<F: Folder, S: Source>(
         &self,
         folder: &mut F,
         source: &mut S,
-        rows: &mut Vec<TableRow>,
-        copy: &WorkingCopy,
-    ) -> Result<(), DiskFault>
-        ensures { Goes (is_inside self.now.admin.now.name) (F.past folder.old) result (F.past folder.new) }
+        admin: &Admin,
+        name: &Text,
+        sum: &Sha1Sum,
+    ) -> Result<Option<u64>, DiskFault>
+        ensures { Goes (is_inside admin.now.name) (F.past folder.old) result (F.past folder.new) }
     {
-        let mut left = Left {
-            wanted: Wanted::by(self.alloc, copy)?,
-            changed: BTreeSet::new(self.alloc),
+        let place = admin.text(self.alloc, name.as_slice())?;
+        let new = admin.new_text(self.alloc)?;
+        let Some(above) = place.parent(self.alloc)? else {
+            return Err(DiskFault::NoStandIn);
         };
-        'texts: for _ in 0..u64::MAX {
-            if left.wanted.names.is_empty() {
-                break 'texts;
-            }
-            let Some(text) = source.next_text(self.alloc) else {
-                break 'texts;
-            };
-            self.keep(folder, rows, &mut left, text)?;
-        }
-        left.wanted.refuse_missing(copy)?;
-        self.sync(folder, &left.changed)
+        admin.make_directory_if_none(self.alloc, folder, &above)?;
+        admin.make_text(self.alloc, folder, &new, PRISTINE, source)?;
+        let Some(size) = size_at(self.alloc, folder, &new, sum)? else {
+            return Ok(None);
+        };
+        admin.rename(folder, &new, &place)?;
+        Ok(Some(size))
     }
 
-    // Brings the names of all new texts to the disk.
-    fn sync<F: Folder>(&self, folder: &mut F, changed: &BTreeSet<RelPath>) -> Result<(), DiskFault>
-        ensures { Goes (is_inside self.now.admin.now.name) (F.past folder.old) result (F.past folder.new) }
-    {
-        for path in changed {
-            self.admin.sync_directory(folder, path)?;
-        }
+    // Adds the row of a text.
+    fn push_row(
+        &mut self,
+        rows: &mut Vec<TableRow>,
+        name: &Text,
+        size: u64,
+        md5: &Digest,
+    ) -> Result<(), DiskFault> {
+        let bytes = pristine_record(self.alloc, name.as_slice(), size, md5)?;
+        let rowid = match rows.last() {
+            Some(row) => row.rowid.saturating_add(1),
+            None => 1,
+        };
+        rows.push(TableRow { rowid, bytes })?;
         Ok(())
     }
-}
 
-// Whether a stand-in names a text.
-fn is_named(alloc: Global, text: &Text, name: &Text) -> Result<bool, DiskFault> {
-    let found = stand_in(alloc, text.as_slice())?;
-    Ok(found.as_slice() == name.as_slice())
-}
-
-/// The text of a file, as the copy keeps it. NoText where it isn't the one that its stand-in names.
-pub(crate) fn kept_text<F: Folder>(
-    alloc: Global,
-    folder: &F,
-    admin: &Admin,
-    path: &RelPath,
-    name: &Text,
-) -> Result<Text, DiskFault> {
-    let place = admin.text(alloc, name.as_slice())?;
-    let Some(Entry::File(text, _)) = folder.look(alloc, &place)? else {
-        return Err(DiskFault::NoText(path.clone()?));
-    };
-    if is_named(alloc, &text, name)? {
-        Ok(text)
-    } else {
-        Err(DiskFault::NoText(path.clone()?))
+    /// Keeps the text of a file, and gives it a row, unless it is kept already. Returns its size in bytes. NoText where the source doesn't give it.
+    pub(crate) fn keep<F: Folder, S: Source>(
+        &mut self,
+        folder: &mut F,
+        source: &mut S,
+        admin: &Admin,
+        rows: &mut Vec<TableRow>,
+        file: (&RelPath, &Text),
+    ) -> Result<u64, DiskFault>
+        ensures { Goes (is_inside admin.now.name) (F.past folder.old) result (F.past folder.new) }
+    {
+        let (path, name) = file;
+        let sum = sum_of(self.alloc, name)?;
+        if let Some(size) = self.sizes.get(&sum.0) {
+            return Ok(*size);
+        }
+        let Some(md5) = source.begin_text(&sum) else {
+            return Err(DiskFault::NoText(path.clone()?));
+        };
+        let Some(size) = self.put(folder, source, admin, name, &sum)? else {
+            return Err(DiskFault::NoText(path.clone()?));
+        };
+        self.push_row(rows, name, size, &md5)?;
+        self.sizes.insert(sum.0, size)?;
+        Ok(size)
     }
 }

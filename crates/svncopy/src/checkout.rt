@@ -1,7 +1,7 @@
 //! `svncopy checkout`.
 
 use crate::command_line;
-use crate::dump::{History, open};
+use crate::dump::{DumpSource, History, open};
 use crate::fault::Fault;
 use crate::progress::Progress;
 use crate::url::address_of;
@@ -11,7 +11,7 @@ use std::io::ErrorKind;
 use std::path::PathBuf;
 use std::rt::{Clock, Files};
 use std::time::{SystemTime, UNIX_EPOCH};
-use svn_disk_update::{Checkout, check_out, inherited_props};
+use svn_disk_update::{Checkout, check_out, inherited_props, refuse_reserved};
 use svn_folder::{DiskFolder, SyncedFolder};
 use svn_types::{RelPath, Rev};
 use svn_wc::{WcFault, WorkingCopy};
@@ -45,26 +45,6 @@ fn copy_of(
     }
 }
 
-// Whether a path has the name of the folder in which a working copy keeps what it knows.
-fn is_reserved(path: &RelPath) -> bool {
-    for name in path.components() {
-        if name.as_str() == ".svn" {
-            return true;
-        }
-    }
-    false
-}
-
-// Refuses a node of that name, as Subversion does.
-fn refuse_reserved(copy: &WorkingCopy) -> Result<(), Fault> {
-    for (path, _) in copy.iter() {
-        if is_reserved(path) {
-            return Err(Fault::Reserved(path.clone()?));
-        }
-    }
-    Ok(())
-}
-
 // Makes the folder, if it isn't there.
 fn make_folder<T: Files>(rt: &T, folder: &str) -> Result<(), Fault> {
     match fs::create_dir(rt, folder) {
@@ -83,7 +63,7 @@ pub(crate) fn make<T: Files + Input + Print + Eprint + Clock + AllocGlobal>(
     let address = address_of(alloc, words)?;
     let dump = open(rt, words.dump, words.folder)?;
     let mut progress = Progress::begin(rt, words.progress);
-    let (history, mut texts) = dump.load(alloc, &mut progress)?;
+    let (history, texts) = dump.load(alloc, &mut progress)?;
     let rev = address.rev.unwrap_or(history.repo.latest());
     let copy = copy_of(alloc, &history, &address.path, rev)?;
     refuse_reserved(&copy)?;
@@ -101,8 +81,9 @@ pub(crate) fn make<T: Files + Input + Print + Eprint + Clock + AllocGlobal>(
         copy: &copy,
         inherited,
         time,
+        sync: !words.no_sync,
     };
-    check_out(alloc, &mut folder, &mut texts, &what)?;
+    check_out(alloc, &mut folder, &mut DumpSource::new(&history, texts), &what)?;
     match println!(rt; "Checked out revision {}.", rev.0) {
         Ok(()) => Ok(()),
         Err(_) => Err(Fault::Write),

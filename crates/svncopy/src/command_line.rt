@@ -26,14 +26,24 @@ pub(crate) struct Checkout<'a> {
     pub(crate) root: Option<&'a str>,
     /// Whether to print how far it is.
     pub(crate) progress: bool,
+    /// Whether nothing is brought to the disk.
+    pub(crate) no_sync: bool,
+}
+
+/// `resume WC..`: complete what was cut off.
+#[derive(Debug, Drop)]
+pub(crate) struct Resume<'a> {
+    /// The folders.
+    pub(crate) folders: Vec<&'a str>,
+    /// Whether nothing is brought to the disk.
+    pub(crate) no_sync: bool,
 }
 
 /// What is asked for.
 #[derive(Debug, Drop)]
 pub(crate) enum Request<'a> {
     Checkout(Checkout<'a>),
-    /// `resume WC..`: complete what was cut off.
-    Resume(Vec<&'a str>),
+    Resume(Resume<'a>),
 }
 
 fn word<'a>(alloc: Global, id: &'a str, name: &'a str, help: &'a str) -> Arg<'a> {
@@ -41,6 +51,14 @@ fn word<'a>(alloc: Global, id: &'a str, name: &'a str, help: &'a str) -> Arg<'a>
         .value_name(name)
         .help(help)
         .required(true)
+}
+
+// The word that leaves out all syncs.
+fn no_sync<'a>(alloc: Global) -> Arg<'a> {
+    Arg::new(alloc, "no-sync")
+        .long("no-sync")
+        .action(ArgAction::SetTrue)
+        .help("Leave it to the system when what is written reaches the disk: faster, but not safe against a loss of power")
 }
 
 fn checkout_command<'a>(alloc: Global) -> Result<Command<'a>, AllocError> {
@@ -70,13 +88,15 @@ fn checkout_command<'a>(alloc: Global) -> Result<Command<'a>, AllocError> {
                 .long("progress")
                 .action(ArgAction::SetTrue)
                 .help("Print on standard error how many revisions and bytes are read"),
-        )
+        )?
+        .arg(no_sync(alloc))
 }
 
 fn resume_command<'a>(alloc: Global) -> Result<Command<'a>, AllocError> {
     Command::new(alloc, "resume")
         .about("Complete working copies whose making was cut off")
-        .arg(word(alloc, "folders", "WC", "The folder of a working copy").num_args(1..))
+        .arg(word(alloc, "folders", "WC", "The folder of a working copy").num_args(1..))?
+        .arg(no_sync(alloc))
 }
 
 fn command<'a>(alloc: Global) -> Result<Command<'a>, AllocError> {
@@ -96,6 +116,7 @@ fn checkout_of<'a>(matches: &ArgMatches<'a>) -> Checkout<'a> {
         folder: matches.get_str("folder").unwrap_or("."),
         root: matches.get_str("root"),
         progress: matches.get_flag("progress"),
+        no_sync: matches.get_flag("no-sync"),
     }
 }
 
@@ -114,7 +135,10 @@ pub(crate) fn request_of<'a>(alloc: Global, words: &'a [&'a str]) -> Result<Requ
         return Err(Error::from(AllocError));
     };
     Ok(match name {
-        "resume" => Request::Resume(folders_of(alloc, words)?),
+        "resume" => Request::Resume(Resume {
+            folders: folders_of(alloc, words)?,
+            no_sync: words.get_flag("no-sync"),
+        }),
         _ => Request::Checkout(checkout_of(words)),
     })
 }

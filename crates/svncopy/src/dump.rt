@@ -1,18 +1,22 @@
-//! A dump, read twice: once for its history, and once for its texts, so that no more than one text is in memory.
+//! A dump: read once for its history, and at the places of those texts that a copy has, so that no text is in memory as a whole.
 
 use crate::fault::Fault;
-use std::alloc::Global;
+use std::alloc::{AllocError, Global};
 use std::fs::{File, OpenOptions};
-use std::io::Read;
+use std::io::{Read, Seek, SeekFrom};
 use std::os::unix::fs::OpenOptionsExt;
 use std::rt::Files;
 use std::{fs, io};
 use svn_disk_update::Source;
-use svn_dump::{Limits, NodeRecord, Reader, Record, TextSection, Texts};
-use svn_history::{LoadListener, Loader};
+use svn_dump::{DumpIndex, Limits, Reader, Texts};
+use svn_folder::Pieces;
+use svn_history::{LoadListener, Loader, last_change};
 use svn_repo::Repo;
-use svn_types::{RelPath, Rev, Text};
+use svn_types::{Digest, PathFault, RelPath, Rev, Sha1Sum, Text};
 use svn_wcrows::LastChange;
+
+/// So many bytes of a text are read at once.
+const PIECE: u64 = 65536;
 
 /// A dump that is opened twice.
 #[derive(Drop)]
@@ -28,12 +32,17 @@ pub(crate) struct History {
     pub(crate) repo: Repo,
     /// The repository's UUID.
     pub(crate) uuid: Text,
+    /// Where each text is, who made each revision and when, and the copies.
+    index: DumpIndex,
 }
 
-/// The texts of a dump, one after another.
+/// The texts of a dump, and the last changes of its nodes.
 #[derive(Drop)]
-pub(crate) struct DumpTexts<R> {
-    records: Reader<R>,
+pub(crate) struct DumpSource<'a, R> {
+    history: &'a History,
+    texts: R,
+    // How many bytes are left of the text that was begun.
+    left: u64,
 }
 
 // Opens a file twice.
@@ -78,39 +87,31 @@ pub(crate) fn open<T: Files + Input + AllocGlobal>(
     }
 }
 
-fn read<R: Read + Drop>(
-    alloc: Global,
-    input: R,
-    limits: Limits,
-    texts: Texts,
-) -> Result<Reader<R>, Fault> {
-    match Reader::new(alloc, input, limits, texts) {
-        Ok(reader) => Ok(reader),
-        Err(fault) => Err(Fault::Front(fault)),
-    }
-}
-
 // The history that a loader has.
 fn history_of<R: Read + Drop>(alloc: Global, loader: Loader<R>) -> Result<History, Fault> {
     let Some(uuid) = loader.uuid() else {
         return Err(Fault::NoUuid);
     };
     let uuid = Text::from_slice(alloc, uuid)?;
-    Ok(History {
-        repo: loader.into_repo(),
-        uuid,
-    })
+    match loader.into_parts() {
+        (repo, Some(index)) => Ok(History { repo, uuid, index }),
+        // its reader keeps one
+        (_, None) => Err(Fault::Memory),
+    }
 }
 
 impl<R: Read + Drop> Dump<R> {
-    /// Its history, and its texts, which aren't read yet.
+    /// Its history, and the file of its texts.
     pub(crate) fn load<L: LoadListener>(
         self,
         alloc: Global,
         listener: &mut L,
-    ) -> Result<(History, DumpTexts<R>), Fault> {
+    ) -> Result<(History, R), Fault> {
         let Dump { history, texts } = self;
-        let reader = read(alloc, history, Limits::default(), Texts::Sha1)?;
+        let reader = match Reader::new(alloc, history, Limits::default(), Texts::Sha1) {
+            Ok(reader) => reader.with_index(),
+            Err(fault) => return Err(Fault::Front(fault)),
+        };
         let Ok(repo) = Repo::new(alloc) else {
             return Err(Fault::Memory);
         };
@@ -119,32 +120,62 @@ impl<R: Read + Drop> Dump<R> {
             let byte = loader.records().begun();
             return Err(Fault::Dump { byte, fault });
         }
-        let limits = Limits {
-            text: usize::MAX,
-            ..Limits::default()
-        };
-        let records = read(alloc, texts, limits, Texts::Whole)?;
-        Ok((history_of(alloc, loader)?, DumpTexts { records }))
+        Ok((history_of(alloc, loader)?, texts))
     }
 }
 
-impl<R: Read + Drop> Source for DumpTexts<R> {
-    fn next_text(&mut self, _alloc: Global) -> Option<Text> {
-        for _ in 0..u64::MAX {
-            match self.records.next_record().ok()?? {
-                Record::Node(node) => {
-                    let NodeRecord { text, .. } = node;
-                    if let Some(TextSection::Whole(text)) = text {
-                        return Some(text);
-                    }
-                }
-                Record::Other | Record::Revision { .. } => {}
-            }
+impl<R: Read + Seek + Drop> DumpSource<'_, R> {
+    /// The texts of a history, in the file that it was read from.
+    pub(crate) fn new(history: &History, texts: R) -> DumpSource<'_, R> {
+        DumpSource {
+            history,
+            texts,
+            left: 0,
         }
-        None
+    }
+}
+
+impl<R: Read + Seek + Drop> Pieces for DumpSource<'_, R> {
+    fn next_piece(&mut self, alloc: Global) -> Option<Text> {
+        let len = self.left.min(PIECE) as usize;
+        let mut piece = vec![in alloc; 0u8; len].ok()?;
+        let read = self.texts.read(&mut piece).ok()?;
+        if read == 0 {
+            return None;
+        }
+        piece.truncate(read);
+        self.left = self.left.saturating_sub(read as u64);
+        Some(Text::new(piece))
+    }
+}
+
+impl<R: Read + Seek + Drop> Source for DumpSource<'_, R> {
+    fn begin_text(&mut self, sha1: &Sha1Sum) -> Option<Digest> {
+        let place = self.history.index.text(sha1)?;
+        self.left = place.len;
+        match self.texts.seek(SeekFrom::Start(place.begin)) {
+            Ok(_) => Some(place.md5),
+            Err(_) => None,
+        }
     }
 
-    fn last_change(&self, _rev: Rev, _path: &RelPath) -> Option<LastChange<'_>> {
-        None
+    fn last_change(
+        &self,
+        alloc: Global,
+        rev: Rev,
+        path: &RelPath,
+    ) -> Result<Option<LastChange<'_>>, AllocError> {
+        let History { repo, index, .. } = self.history;
+        match last_change(alloc, repo, index, rev, path) {
+            Ok(Some(change)) => Ok(Some(LastChange {
+                rev: change.rev,
+                date: change.date,
+                author: change.author,
+            })),
+            Ok(None) => Ok(None),
+            Err(PathFault::Memory) => Err(AllocError),
+            // a dump with a path that is too long isn't loaded
+            Err(_) => Ok(None),
+        }
     }
 }

@@ -6,7 +6,6 @@ use std::io;
 use svn_disk_update::DiskFault;
 use svn_dump::DumpFault;
 use svn_history::LoadFault;
-use svn_types::RelPath;
 use svn_wc::WcFault;
 use thiserror::Error;
 
@@ -53,9 +52,6 @@ pub(crate) enum Fault {
     /// The revision has no directory at the path.
     #[error("{0}")]
     NoDirectory(WcFault),
-    /// A node has the name of the folder in which a working copy keeps what it knows.
-    #[error("{0}: no node of a working copy may have the name .svn")]
-    Reserved(RelPath),
     /// The folder can't be made.
     #[error("{0}")]
     NoFolder(io::Error),
@@ -83,9 +79,10 @@ impl Fault {
             | Fault::Dump { .. }
             | Fault::NoUuid
             | Fault::NoRevision(_, _) => words.dump,
-            Fault::OtherRoot | Fault::BadUrl | Fault::NoDirectory(_) | Fault::Reserved(_) => {
-                words.url
-            }
+            Fault::OtherRoot
+            | Fault::BadUrl
+            | Fault::NoDirectory(_)
+            | Fault::Disk(DiskFault::Reserved(_)) => words.url,
             Fault::Words(_)
             | Fault::NoFolder(_)
             | Fault::Clock(_)

@@ -11,7 +11,7 @@ mod resume;
 mod url;
 
 use crate::checkout::make;
-use crate::command_line::{Request, request_of};
+use crate::command_line::{Request, Resume, request_of};
 use crate::fault::Fault;
 use crate::resume::complete;
 use std::env;
@@ -41,10 +41,10 @@ fn refuse<T: Eprint>(rt: &T, name: &str, fault: &Fault) -> ExitCode {
 }
 
 // Completes each copy in turn; one that is refused doesn't keep the others from it.
-fn complete_all<T: Files + Print + Eprint + AllocGlobal>(rt: &T, folders: &[&str]) -> ExitCode {
+fn complete_all<T: Files + Print + Eprint + AllocGlobal>(rt: &T, words: &Resume<'_>) -> ExitCode {
     let mut status = ExitCode::SUCCESS;
-    for folder in folders {
-        if let Err(fault) = complete(rt, folder) {
+    for folder in &words.folders {
+        if let Err(fault) = complete(rt, folder, !words.no_sync) {
             status = refuse(rt, folder, &fault);
         }
     }
@@ -60,7 +60,7 @@ fn answer<T: Files + Input + Print + Eprint + Clock + AllocGlobal>(
             Ok(()) => ExitCode::SUCCESS,
             Err(fault) => refuse(rt, fault.subject(words), &fault),
         },
-        Request::Resume(folders) => complete_all(rt, folders),
+        Request::Resume(words) => complete_all(rt, words),
     }
 }
 

@@ -3,15 +3,22 @@
 use crate::fault::Fault;
 use std::path::PathBuf;
 use std::rt::Files;
-use svn_disk_update::resume;
+use svn_disk_update::{Resumed, resume};
 use svn_folder::DiskFolder;
 
-/// Completes a working copy, and says whether anything was left to do.
-pub(crate) fn complete<T: Files + Print + AllocGlobal>(rt: &T, word: &str) -> Result<(), Fault> {
+/// Completes a working copy, and says what there was to do.
+pub(crate) fn complete<T: Files + Print + AllocGlobal>(
+    rt: &T,
+    word: &str,
+    sync: bool,
+) -> Result<(), Fault> {
     let alloc = rt.alloc();
     let mut folder = DiskFolder::new(rt, PathBuf::from_str(alloc, word)?);
-    let done = resume(alloc, &mut folder)?;
-    let what = if done { "completed" } else { "nothing to do" };
+    let what = match resume(alloc, &mut folder, sync)? {
+        Resumed::Nothing => "nothing to do",
+        Resumed::Completed => "completed",
+        Resumed::Cleared => "no copy: removed what a checkout left",
+    };
     match println!(rt; "{word}: {what}") {
         Ok(()) => Ok(()),
         Err(_) => Err(Fault::Write),

@@ -1,12 +1,12 @@
 //! A small history, and where its texts come from.
 
 use anyhow::Result;
-use std::alloc::Global;
+use std::alloc::{AllocError, Global};
 use svn_digits::stand_in;
 use svn_disk_update::{Checkout, Source, check_out};
-use svn_folder::{Folder, MemoryFolder, StoppedFolder, SyncedFolder, an_empty_folder_is_synced};
+use svn_folder::{Folder, MemoryFolder, Pieces, StoppedFolder, SyncedFolder, an_empty_folder_is_synced};
 use svn_repo::{Change, PropName, Repo};
-use svn_types::{RelPath, Rev, Text};
+use svn_types::{Digest, RelPath, Rev, Sha1Sum, Text};
 use svn_wc::WorkingCopy;
 use svn_wcrows::LastChange;
 
@@ -22,25 +22,47 @@ const FILES: [(&str, &str, &str); 5] = [
 /// A folder in memory that stops, and knows what of it is on the disk.
 pub(crate) type Stopping = SyncedFolder<StoppedFolder<MemoryFolder>>;
 
-/// Its texts, one after another.
+/// Its texts, of which one is begun.
 #[derive(Clone, Copy, Debug)]
 pub(crate) struct Known {
-    next: usize,
+    begun: Option<&'static str>,
+}
+
+impl Pieces for Known {
+    fn next_piece(&mut self, alloc: Global) -> Option<Text> {
+        let text = self.begun?;
+        if text.is_empty() {
+            return None;
+        }
+        // three bytes at once, which are ASCII
+        let (piece, left) = text.split_at(text.len().min(3));
+        self.begun = Some(left);
+        Text::from_slice(alloc, piece.as_bytes()).ok()
+    }
 }
 
 impl Source for Known {
-    fn next_text(&mut self, alloc: Global) -> Option<Text> {
-        let (_, text, _) = FILES.get(self.next)?;
-        self.next += 1;
-        Text::from_slice(alloc, text.as_bytes()).ok()
+    fn begin_text(&mut self, sha1: &Sha1Sum) -> Option<Digest> {
+        for (_, text, _) in FILES {
+            if Sha1Sum::of(text.as_bytes()) == *sha1 {
+                self.begun = Some(text);
+                return Some(Digest::of(text.as_bytes()));
+            }
+        }
+        None
     }
 
-    fn last_change(&self, rev: Rev, _path: &RelPath) -> Option<LastChange<'_>> {
-        Some(LastChange {
+    fn last_change(
+        &self,
+        _alloc: Global,
+        rev: Rev,
+        _path: &RelPath,
+    ) -> Result<Option<LastChange<'_>>, AllocError> {
+        Ok(Some(LastChange {
             rev,
             date: Some(1_700_000_000_000_000),
             author: Some(b"jo"),
-        })
+        }))
     }
 }
 
@@ -93,8 +115,9 @@ pub(crate) fn make<F: Folder>(
         copy,
         inherited: None,
         time: 1_700_000_000_000_000,
+        sync: true,
     };
-    check_out(alloc, folder, &mut Known { next: 0 }, &what)?;
+    check_out(alloc, folder, &mut Known { begun: None }, &what)?;
     Ok(())
 }
 

@@ -47,8 +47,8 @@ fn try_taken<R: Print + AllocGlobal>(rt: &R, copy: &WorkingCopy) -> Result<()> {
 
 // What a completion says.
 fn resumed(alloc: Global, folder: &mut MemoryFolder) -> Result<String> {
-    Ok(match resume(alloc, folder) {
-        Ok(any) => format!(in alloc; "done: {any}")?,
+    Ok(match resume(alloc, folder, true) {
+        Ok(done) => format!(in alloc; "{done:?}")?,
         Err(fault) => format!(in alloc; "{fault}")?,
     })
 }

@@ -3,7 +3,7 @@
 use crate::copies::{copy, empty, inner, make};
 use anyhow::{Result, bail};
 use std::alloc::Global;
-use svn_disk_update::resume;
+use svn_disk_update::{DiskFault, Resumed, resume};
 use svn_folder::{Entry, Folder, Held, MemoryFolder, StoppedFolder};
 use svn_types::RelPath;
 use svn_wc::WorkingCopy;
@@ -86,16 +86,26 @@ fn completed(
     folder: &mut MemoryFolder,
     whole: &MemoryFolder,
 ) -> Result<&'static str> {
-    if look(alloc, folder, ".svn")?.is_none() {
-        return Ok("no copy");
-    }
-    let word = if resume(alloc, folder)? {
-        "work left"
-    } else {
-        "whole"
+    let had_any = look(alloc, folder, ".svn-new")?.is_some();
+    let word = match resume(alloc, folder, true) {
+        Ok(Resumed::Completed) => "work left",
+        Ok(Resumed::Nothing) => "whole",
+        Ok(Resumed::Cleared) if had_any => return empty_again(alloc, folder),
+        Err(DiskFault::NoCopy) if !had_any => return Ok("nothing"),
+        Ok(Resumed::Cleared) => bail!("nothing was to be cleared"),
+        Err(fault) => bail!("{fault}"),
     };
     compare(alloc, folder, whole)?;
     Ok(word)
+}
+
+// Fails unless the folder is empty.
+fn empty_again(alloc: Global, folder: &MemoryFolder) -> Result<&'static str> {
+    if folder.list(alloc, &RelPath::root(alloc))?.is_empty() {
+        Ok("no copy")
+    } else {
+        bail!("something is left of a checkout")
+    }
 }
 
 /// The folder of a checkout that was stopped after so many steps.
@@ -140,7 +150,7 @@ fn resume_twice(
     stops: (u64, u64),
 ) -> Result<()> {
     let mut folder = StoppedFolder::new(stopped(alloc, copy, stops.0)?, stops.1);
-    let _ = resume(alloc, &mut folder);
+    let _ = resume(alloc, &mut folder, true);
     let StoppedFolder { mut folder, .. } = folder;
     completed(alloc, &mut folder, whole)?;
     Ok(())
