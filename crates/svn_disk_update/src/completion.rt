@@ -81,6 +81,8 @@ fn refuse_foreign<F: Folder>(
                 let entry = wanted(alloc, folder, admin, path, existing.copy.get(path))?;
                 refuse_other(alloc, folder, path, &entry)?;
             }
+            // No checkout has anything to remove.
+            Work::RemoveFile(_) | Work::RemoveDirectory(_) => return Err(DiskFault::Foreign),
         }
     }
     Ok(())
