@@ -110,6 +110,8 @@ fn refuse_foreign<F: Folder>(
         match item {
             Work::MakeDirectory(path) => refuse_no_directory(alloc, folder, path)?,
             Work::InstallFile(path) => refuse_file(alloc, folder, admin, existing, path)?,
+            // no checkout has anything to remove
+            Work::RemoveFile(_) | Work::RemoveDirectory(_) => return Err(DiskFault::Foreign),
         }
     }
     Ok(())

@@ -18,13 +18,20 @@ pub enum Work {
     MakeDirectory(RelPath),
     /// Puts a file there as the copy has it: its pristine text, in its mode. Its size and time are recorded.
     InstallFile(RelPath),
+    /// Removes a file, if one is there.
+    RemoveFile(RelPath),
+    /// Removes a directory, if one is there and nothing is in it.
+    RemoveDirectory(RelPath),
 }
 
 impl Work {
     /// The path that it is about.
     pub fn path(&self) -> &RelPath {
         match self {
-            Work::MakeDirectory(path) | Work::InstallFile(path) => path,
+            Work::MakeDirectory(path)
+            | Work::InstallFile(path)
+            | Work::RemoveFile(path)
+            | Work::RemoveDirectory(path) => path,
         }
     }
 
@@ -32,6 +39,8 @@ impl Work {
         match self {
             Work::MakeDirectory(_) => "dir-install",
             Work::InstallFile(_) => "file-install",
+            Work::RemoveFile(_) => "file-remove",
+            Work::RemoveDirectory(_) => "dir-remove",
         }
     }
 
@@ -84,6 +93,8 @@ fn work_of(
     let work = match word {
         b"dir-install" => Work::MakeDirectory(path),
         b"file-install" => Work::InstallFile(path),
+        b"file-remove" => Work::RemoveFile(path),
+        b"dir-remove" => Work::RemoveDirectory(path),
         _ => return Ok(None),
     };
     let mut again = Vec::new(alloc);
