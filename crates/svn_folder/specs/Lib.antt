@@ -3,6 +3,7 @@ pub mod States
 pub mod Steps
 pub mod Crashes
 pub mod Pasts
+pub mod Files
 pub mod Memory
 pub mod Syncing
 pub mod Marking

@@ -1,10 +1,13 @@
 //! A folder of the system.
+ghost use Rattle.std.specs.Prelude.{◌<◌, OnOk};
+ghost use Rattle.svn_folder.specs.Files.{Gives};
 
 use crate::entry::{Entry, Mode};
 use crate::fault::{FolderFault, Misfit};
 use crate::folder::Folder;
 use crate::listing::{add_name, in_order};
-use crate::step::Step;
+use crate::pieces::Pieces;
+use crate::step::{Step, make_step};
 use crate::summary::Summary;
 use sha1::Sha1;
 use std::alloc::{AllocError, Global};
@@ -14,6 +17,8 @@ use std::io::{ErrorKind, Read, Write};
 use std::os::unix::fs::{OpenOptionsExt, PermissionsExt, symlink};
 use std::path::PathBuf;
 use std::rt::Files;
+use std::thread;
+use std::thread::Threads;
 use std::time::{Duration, SystemTime, UNIX_EPOCH};
 use std::{fs, io};
 use svn_types::{Name, PathFault, RelPath, Sha1Sum, Text};
@@ -28,6 +33,12 @@ const EXECUTE: u32 = 0o111;
 
 /// So many bytes of a file are read at once.
 const PIECE: usize = 65536;
+
+/// So many threads sync files at once.
+const MAX_THREADS: usize = 16;
+
+/// A thread syncs at least so many files.
+const MIN_SHARE: usize = 8;
 
 /// A folder of the system. Each step is the calls that it names, and a look before it at what the system wouldn't refuse. What the system refuses is
 /// `Failed`, with its error, also where the step doesn't fit.
@@ -62,6 +73,13 @@ fn time_of(micros: u64) -> io::Result<SystemTime> {
         .ok_or(io::Error::from(ErrorKind::InvalidInput))
 }
 
+// How many of so many files a thread syncs.
+fn share_size(count: usize) -> usize
+    ensures { 0 < result }
+{
+    count.div_ceil(MAX_THREADS).max(MIN_SHARE)
+}
+
 // The mode of a file, by what its owner may do.
 fn mode_of(file: &Metadata) -> Mode {
     let bits = file.permissions().mode();
@@ -85,7 +103,7 @@ fn is_absent(error: &io::Error) -> bool {
     matches!(error.kind(), ErrorKind::NotFound | ErrorKind::NotADirectory)
 }
 
-impl<'a, T: Files + AllocGlobal> DiskFolder<'a, T> {
+impl<'a, T: Files + Threads + Sync + AllocGlobal> DiskFolder<'a, T> {
     /// The folder at a path of the system. Nothing is looked at.
     pub fn new(rt: &'a T, root: PathBuf) -> DiskFolder<'a, T> {
         DiskFolder { rt, root }
@@ -103,22 +121,67 @@ impl<'a, T: Files + AllocGlobal> DiskFolder<'a, T> {
         self.root.join(self.rt.alloc(), name.as_str())
     }
 
-    // Makes a file where none is, with the mode that it is to have, and writes its bytes.
-    fn make_file(
+    // Makes a file where none is, with the mode that it is to have, and nothing in it.
+    fn create(&self, place: &PathBuf, mode: Mode) -> io::Result<T::File> {
+        let mut options = OpenOptions::new();
+        options.write(true).create_new(true).mode(bits_of(mode));
+        options.open(self.rt, place)
+    }
+
+    // Gives a file the time that it is to have, once all is written.
+    fn set_time(&self, file: &T::File, modified: Option<u64>) -> io::Result<()> {
+        match modified {
+            Some(micros) => file.set_times(FileTimes::new().set_modified(time_of(micros)?)),
+            None => Ok(()),
+        }
+    }
+
+    // Makes a file of these bytes.
+    fn write_bytes(
         &self,
         place: &PathBuf,
         bytes: &[u8],
         mode: Mode,
         modified: Option<u64>,
     ) -> io::Result<()> {
-        let mut options = OpenOptions::new();
-        options.write(true).create_new(true).mode(bits_of(mode));
-        let mut file = options.open(self.rt, place)?;
+        let mut file = self.create(place, mode)?;
         file.write_all(bytes)?;
-        match modified {
-            Some(micros) => file.set_times(FileTimes::new().set_modified(time_of(micros)?)),
-            None => Ok(()),
+        self.set_time(&file, modified)
+    }
+
+    // Makes a file of the pieces, each written as it comes.
+    fn write_pieces<P: Pieces>(
+        &self,
+        place: &PathBuf,
+        mode: Mode,
+        modified: Option<u64>,
+        pieces: &mut P,
+    ) -> io::Result<()>
+        ensures given { Gives (P.given pieces.old) (P.given pieces.new) }
+        ensures over { OnOk result (P.is_over pieces.new) }
+    {
+        let mut file = self.create(place, mode)?;
+        'pieces: for _ in 0..u64::MAX {
+            let Some(piece) = pieces.next_piece(self.rt.alloc()) else {
+                return self.set_time(&file, modified);
+            };
+            file.write_all(piece.as_slice())?;
         }
+        Err(io::Error::from(ErrorKind::FileTooLarge))
+    }
+
+    // Makes a file with the bytes of another one.
+    fn write_copy(
+        &self,
+        source: &PathBuf,
+        place: &PathBuf,
+        mode: Mode,
+        modified: Option<u64>,
+    ) -> io::Result<()> {
+        let mut from = File::open(self.rt, source)?;
+        let mut file = self.create(place, mode)?;
+        io::copy(&mut from, &mut file)?;
+        self.set_time(&file, modified)
     }
 
     // Makes a link. A target that isn't UTF-8 is refused.
@@ -131,7 +194,7 @@ impl<'a, T: Files + AllocGlobal> DiskFolder<'a, T> {
 
     fn make(&self, place: &PathBuf, entry: &Entry, modified: Option<u64>) -> io::Result<()> {
         match entry {
-            Entry::File(bytes, mode) => self.make_file(place, bytes.as_slice(), *mode, modified),
+            Entry::File(bytes, mode) => self.write_bytes(place, bytes.as_slice(), *mode, modified),
             Entry::Directory => fs::create_dir(self.rt, place),
             Entry::Link(target) => self.make_link(place, target.as_slice()),
         }
@@ -290,10 +353,9 @@ impl<'a, T: Files + AllocGlobal> DiskFolder<'a, T> {
             None => None,
         })
     }
-}
 
-impl<T: Files + AllocGlobal> Folder for DiskFolder<'_, T> {
-    fn take(&mut self, step: Step) -> Result<(), FolderFault> {
+    // Takes a step.
+    fn try_step(&self, step: Step) -> Result<(), FolderFault> {
         match self.misfit(&step)? {
             Ok(None) => {}
             Ok(Some(misfit)) => return Err(FolderFault::Refused { step, misfit }),
@@ -303,6 +365,82 @@ impl<T: Files + AllocGlobal> Folder for DiskFolder<'_, T> {
             Ok(()) => Ok(()),
             Err(error) => Err(FolderFault::Failed { step, error }),
         }
+    }
+
+    // Syncs files one after the other, up to the first that fails.
+    fn sync_share(&self, paths: &[RelPath]) -> Result<(), FolderFault> {
+        for path in paths {
+            self.try_step(Step::SyncFile(path.clone()?))?;
+        }
+        Ok(())
+    }
+
+    // Syncs files in shares, each in a thread of its own if one can be made. The error is that of the first path that fails.
+    fn sync_shares(&self, paths: &[RelPath]) -> Result<(), FolderFault> {
+        let alloc = self.rt.alloc();
+        let size = share_size(paths.len());
+        let folder = self;
+        let sync = |_: usize, share: &[RelPath]| folder.sync_share(share);
+        for outcome in thread::map_chunks(self.rt, alloc, paths, size, &sync)? {
+            outcome?;
+        }
+        Ok(())
+    }
+}
+
+impl<T: Files + Threads + Sync + AllocGlobal> Folder for DiskFolder<'_, T> {
+    fn take(&mut self, step: Step) -> Result<(), FolderFault> {
+        self.try_step(step)
+    }
+
+    fn make_file<P: Pieces>(
+        &mut self,
+        alloc: Global,
+        path: &RelPath,
+        mode: Mode,
+        modified: Option<u64>,
+        pieces: &mut P,
+    ) -> Result<(), FolderFault> {
+        match self.write_pieces(&self.place(path)?, mode, modified, pieces) {
+            Ok(()) => Ok(()),
+            Err(error) => Err(FolderFault::Failed {
+                step: make_step(path, Text::new(Vec::new(alloc)), mode, modified)?,
+                error,
+            }),
+        }
+    }
+
+    fn copy_file(
+        &mut self,
+        alloc: Global,
+        from: &RelPath,
+        to: &RelPath,
+        mode: Mode,
+        modified: Option<u64>,
+    ) -> Result<(), FolderFault> {
+        let step = make_step(to, Text::new(Vec::new(alloc)), mode, modified)?;
+        let source = self.place(from)?;
+        match self.is_file(&source) {
+            Ok(true) => {}
+            Ok(false) => {
+                return Err(FolderFault::Refused {
+                    step,
+                    misfit: Misfit::NoFile,
+                });
+            }
+            Err(error) => return Err(unread(from, error)?),
+        }
+        match self.write_copy(&source, &self.place(to)?, mode, modified) {
+            Ok(()) => Ok(()),
+            Err(error) => Err(FolderFault::Failed { step, error }),
+        }
+    }
+
+    fn sync_files(&mut self, paths: &[RelPath]) -> Result<(), FolderFault> {
+        if paths.is_empty() {
+            return Ok(());
+        }
+        self.sync_shares(paths)
     }
 
     fn look(&self, _alloc: Global, path: &RelPath) -> Result<Option<Entry>, FolderFault> {

@@ -38,6 +38,7 @@ mod laws;
 mod left;
 mod listing;
 mod memory;
+mod pieces;
 mod step;
 mod stopped;
 mod summary;
@@ -55,6 +56,7 @@ pub use laws::{
     what_is_synced_stays_meanwhile,
 };
 pub use memory::MemoryFolder;
+pub use pieces::Pieces;
 pub use step::Step;
 pub use stopped::StoppedFolder;
 pub use summary::Summary;

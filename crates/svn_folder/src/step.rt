@@ -1,10 +1,13 @@
 //! What can be done to a folder.
-ghost use Rattle.std.specs.Prelude.{◌≡◌, ◌∷◌, [], MatchOption};
+ghost use Rattle.std.specs.Prelude.{◌≡◌, ◌∷◌, [], IfOk, MatchOption};
+ghost use Rattle.svn_folder.specs.declared.step.Step.TheVariants.{Make};
+ghost use Rattle.svn_folder.specs.declared.entry.Entry.TheVariants.{File};
 ghost use Rattle.svn_folder.specs.Steps.{new_name};
 
-use crate::entry::Entry;
+use crate::entry::{Entry, Mode};
+use std::alloc::AllocError;
 use std::fmt;
-use svn_types::{Name, RelPath};
+use svn_types::{Name, RelPath, Text};
 
 /// One thing that is done to a folder. `specs/Steps.antt` says what it does, and when it fits.
 #[derive(Debug, PartialEq, Eq, Drop)]
@@ -57,6 +60,22 @@ impl Step {
             | Step::RemoveDirectory(_) => None,
         }
     }
+}
+
+/// The step that makes a file of these bytes. The error is that of an allocation that fails.
+pub(crate) fn make_step(
+    path: &RelPath,
+    bytes: Text,
+    mode: Mode,
+    modified: Option<u64>,
+) -> Result<Step, AllocError>
+    ensures { IfOk result (λ step. step ≡ Make path.now (File bytes mode) modified) }
+{
+    Ok(Step::Make {
+        path: path.clone()?,
+        entry: Entry::File(bytes, mode),
+        modified,
+    })
 }
 
 /// What it does, in words, with its paths.

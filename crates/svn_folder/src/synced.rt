@@ -2,10 +2,12 @@
 ghost use Rattle.std.specs.Prelude.{◌≡◌, IsTrue};
 ghost use Rattle.svn_folder.specs.Syncing.{AreMarksOf, IsSyncedPast};
 ghost use Rattle.svn_folder.specs.Marking.{marks_of};
+ghost use Rattle.svn_folder.specs.Files.{TakesSyncs};
 
-use crate::entry::Entry;
+use crate::entry::{Entry, Mode};
 use crate::fault::FolderFault;
 use crate::folder::Folder;
+use crate::pieces::Pieces;
 use crate::step::Step;
 use crate::summary::Summary;
 use crate::unsynced::Unsynced;
@@ -42,6 +44,23 @@ impl<F: Folder> SyncedFolder<F> {
     {
         self.unsynced.is_nothing()
     }
+
+    /// Brings all of it to the disk: the bytes of each file that isn't there yet, and then the names in each directory, those above first, since a
+    /// name is on the disk only with those above it. Nothing that is shown changes. It ends at the first step that isn't taken: `Refused` where a
+    /// marked file or directory isn't there, as after a step that was itself refused. `Memory` if an allocation fails. Where it isn't known what is
+    /// on the disk, it syncs what is known not to be, and `is_synced` stays false.
+    pub fn sync_all(&mut self, alloc: Global) -> Result<(), FolderFault>
+        ensures { TakesSyncs (F.past self.old.folder) result (F.past self.new.folder) }
+    {
+        let (files, directories) = self.unsynced.marked(alloc)?;
+        self.sync_files(&files)?;
+        let mut rest = directories.as_slice();
+        'directories: while let Some((path, after)) = rest.split_first() {
+            self.take(Step::SyncDirectory(path.clone()?))?;
+            rest = after;
+        }
+        Ok(())
+    }
 }
 
 impl<F: Folder> Folder for SyncedFolder<F> {
@@ -52,6 +71,55 @@ impl<F: Folder> Folder for SyncedFolder<F> {
         match self.folder.take(step) {
             Ok(()) => {
                 self.unsynced.finish(&done);
+                Ok(())
+            }
+            Err(fault) => {
+                self.unsynced.give_up(&fault);
+                Err(fault)
+            }
+        }
+    }
+
+    fn make_file<P: Pieces>(
+        &mut self,
+        alloc: Global,
+        path: &RelPath,
+        mode: Mode,
+        modified: Option<u64>,
+        pieces: &mut P,
+    ) -> Result<(), FolderFault> {
+        self.unsynced.begin_file(path)?;
+        match self.folder.make_file(alloc, path, mode, modified, pieces) {
+            Ok(()) => Ok(()),
+            Err(fault) => {
+                self.unsynced.give_up(&fault);
+                Err(fault)
+            }
+        }
+    }
+
+    fn copy_file(
+        &mut self,
+        alloc: Global,
+        from: &RelPath,
+        to: &RelPath,
+        mode: Mode,
+        modified: Option<u64>,
+    ) -> Result<(), FolderFault> {
+        self.unsynced.begin_file(to)?;
+        match self.folder.copy_file(alloc, from, to, mode, modified) {
+            Ok(()) => Ok(()),
+            Err(fault) => {
+                self.unsynced.give_up(&fault);
+                Err(fault)
+            }
+        }
+    }
+
+    fn sync_files(&mut self, paths: &[RelPath]) -> Result<(), FolderFault> {
+        match self.folder.sync_files(paths) {
+            Ok(()) => {
+                self.unsynced.finish_files(paths);
                 Ok(())
             }
             Err(fault) => {

@@ -1,12 +1,12 @@
 //! What of a folder isn't on the disk yet.
-ghost use Rattle.std.specs.Prelude.{◌≡◌, ◌↔◌, ◌&&◌, ◌||◌, ◌⊎◌, ℕ, Option, [], not, true, false, IfOk, OnOk, OnErr, IsTrue};
+ghost use Rattle.std.specs.Prelude.{◌≡◌, ◌↔◌, ◌&&◌, ◌||◌, ◌⊎◌, ℕ, List, Option, [], not, true, false, IfOk, OnOk, OnErr, IsTrue};
 ghost use Rattle.std.specs.BTreeSet.{contains, btree_set_len};
 ghost use Rattle.svn_types.specs.Names.{Path, path_cmp};
 ghost use Rattle.svn_types.specs.Paths.{path_eq, parent};
 ghost use Rattle.svn_folder.specs.Syncing.{no_marks, AreWithin, AreEnough};
-ghost use Rattle.svn_folder.specs.Marking.{marks_of, without};
+ghost use Rattle.svn_folder.specs.Marking.{marks_of, without, without_files};
 
-use crate::entry::Entry;
+use crate::entry::{Entry, Mode};
 use crate::fault::FolderFault;
 use crate::step::Step;
 use std::alloc::{AllocError, Global};
@@ -55,6 +55,15 @@ fn is_marked(paths: &BTreeSet<RelPath>, path: &RelPath) -> bool
     ensures { result ≡ contains path_cmp paths.now path.now }
 {
     paths.contains(path)
+}
+
+// The paths of a set, in their order.
+fn listed(alloc: Global, paths: &BTreeSet<RelPath>) -> Result<Vec<RelPath>, AllocError> {
+    let mut list = Vec::new(alloc);
+    for path in paths {
+        list.push(path.clone()?)?;
+    }
+    Ok(list)
 }
 
 impl Unsynced {
@@ -133,6 +142,15 @@ impl Unsynced {
             Entry::Link(_) => {}
         }
         Ok(Done::Nothing)
+    }
+
+    /// Before a file is made, of whatever bytes: marks what that leaves.
+    pub(crate) fn begin_file(&mut self, path: &RelPath) -> Result<(), AllocError>
+        ensures more { AreWithin (marks_of self.old) (marks_of self.new) }
+        ensures enough { OnOk result ((bytes : List ℕ) (mode : Mode) (t : Option ℕ) → AreEnough (Step.Make path.now (Entry.File bytes mode) t) (marks_of self.old) (marks_of self.new)) }
+    {
+        self.mark_name(path)?;
+        self.mark_bytes(path)
     }
 
     fn begin_sync(&self, path: &RelPath) -> Result<Done, AllocError>
@@ -214,6 +232,26 @@ impl Unsynced {
             Done::Names(path) => unmark(&mut self.directories, path),
             Done::Unknown => self.is_unknown = true,
         }
+    }
+
+    /// Once the bytes of files are on the disk.
+    pub(crate) fn finish_files(&mut self, paths: &[RelPath])
+        ensures { AreWithin (without_files paths.now (marks_of self.old)) (marks_of self.new) }
+    {
+        let mut rest = paths;
+        'paths: while let Some((path, after)) = rest.split_first() {
+            unmark(&mut self.files, path);
+            rest = after;
+        }
+    }
+
+    /// The files whose bytes may not be on the disk, and the directories with a name that may not be, each in the order of paths, as far as they are
+    /// known. The error is that of an allocation that fails.
+    pub(crate) fn marked(&self, alloc: Global) -> Result<(Vec<RelPath>, Vec<RelPath>), AllocError> {
+        Ok((
+            listed(alloc, &self.files)?,
+            listed(alloc, &self.directories)?,
+        ))
     }
 
     /// Once it isn't taken: after a failure nothing is known.

@@ -10,6 +10,7 @@ use std::fs;
 use std::io::ErrorKind;
 use std::path::PathBuf;
 use std::rt::{Clock, Files};
+use std::thread::Threads;
 use std::time::{SystemTime, UNIX_EPOCH};
 use svn_disk_update::{Checkout, check_out, inherited_props, refuse_reserved};
 use svn_folder::{DiskFolder, SyncedFolder};
@@ -55,7 +56,7 @@ fn make_folder<T: Files>(rt: &T, folder: &str) -> Result<(), Fault> {
 }
 
 /// Makes a working copy, and says of which revision it is.
-pub(crate) fn make<T: Files + Input + Print + Eprint + Clock + AllocGlobal>(
+pub(crate) fn make<T: Files + Threads + Sync + Input + Print + Eprint + Clock + AllocGlobal>(
     rt: &T,
     words: &command_line::Checkout<'_>,
 ) -> Result<(), Fault> {

@@ -18,6 +18,7 @@ use std::env;
 use std::env::Env;
 use std::process::ExitCode;
 use std::rt::{Clock, Files};
+use std::thread::Threads;
 
 /// The status of what was refused, or failed.
 const REFUSED: u8 = 2;
@@ -41,7 +42,10 @@ fn refuse<T: Eprint>(rt: &T, name: &str, fault: &Fault) -> ExitCode {
 }
 
 // Completes each copy in turn; one that is refused doesn't keep the others from it.
-fn complete_all<T: Files + Print + Eprint + AllocGlobal>(rt: &T, words: &Resume<'_>) -> ExitCode {
+fn complete_all<T: Files + Threads + Sync + Print + Eprint + AllocGlobal>(
+    rt: &T,
+    words: &Resume<'_>,
+) -> ExitCode {
     let mut status = ExitCode::SUCCESS;
     for folder in &words.folders {
         if let Err(fault) = complete(rt, folder, !words.no_sync) {
@@ -51,7 +55,7 @@ fn complete_all<T: Files + Print + Eprint + AllocGlobal>(rt: &T, words: &Resume<
     status
 }
 
-fn answer<T: Files + Input + Print + Eprint + Clock + AllocGlobal>(
+fn answer<T: Files + Threads + Sync + Input + Print + Eprint + Clock + AllocGlobal>(
     rt: &T,
     request: &Request<'_>,
 ) -> ExitCode {
@@ -64,7 +68,7 @@ fn answer<T: Files + Input + Print + Eprint + Clock + AllocGlobal>(
     }
 }
 
-fn run<T: Files + Input + Print + Eprint + Clock + AllocGlobal>(
+fn run<T: Files + Threads + Sync + Input + Print + Eprint + Clock + AllocGlobal>(
     rt: &T,
     words: &[String],
 ) -> ExitCode {

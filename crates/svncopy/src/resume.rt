@@ -3,11 +3,12 @@
 use crate::fault::Fault;
 use std::path::PathBuf;
 use std::rt::Files;
+use std::thread::Threads;
 use svn_disk_update::{Resumed, resume};
 use svn_folder::DiskFolder;
 
 /// Completes a working copy, and says what there was to do.
-pub(crate) fn complete<T: Files + Print + AllocGlobal>(
+pub(crate) fn complete<T: Files + Threads + Sync + Print + AllocGlobal>(
     rt: &T,
     word: &str,
     sync: bool,

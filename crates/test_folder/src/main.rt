@@ -8,6 +8,7 @@ use anyhow::{Result, bail};
 use std::alloc::Global;
 use std::path::PathBuf;
 use std::rt::Files;
+use std::thread::Threads;
 use svn_folder::{
     DiskFolder, Entry, Folder, FolderFault, Held, MemoryFolder, StoppedFolder, Summary,
     SyncedFolder,
@@ -105,7 +106,7 @@ fn take_both<R: Print + AllocGlobal, F: Folder, G: Folder>(
 }
 
 // The folder on disk, which is empty.
-fn tried<R: Files + AllocGlobal>(rt: &R) -> Result<DiskFolder<'_, R>> {
+fn tried<R: Files + Threads + Sync + AllocGlobal>(rt: &R) -> Result<DiskFolder<'_, R>> {
     if std::fs::exists(rt, TRIED)? {
         std::fs::remove_dir_all(rt, TRIED)?;
     }
@@ -113,7 +114,7 @@ fn tried<R: Files + AllocGlobal>(rt: &R) -> Result<DiskFolder<'_, R>> {
     Ok(DiskFolder::new(rt, PathBuf::from_str(rt.alloc(), TRIED)?))
 }
 
-fn try_both<R: Files + Print + AllocGlobal>(rt: &R) -> Result<()> {
+fn try_both<R: Files + Threads + Sync + Print + AllocGlobal>(rt: &R) -> Result<()> {
     let mut memory = MemoryFolder::new(rt.alloc());
     let mut disk = SyncedFolder::new(rt.alloc(), tried(rt)?);
     for act in ACTS {

@@ -1,0 +1,40 @@
+//! Bytes that come piece by piece.
+ghost use Rattle.std.specs.Prelude.{◌≡◌, ◌++◌, IfOk, OnOk};
+ghost use Rattle.svn_folder.specs.Files.{Gives};
+
+use crate::fault::FolderFault;
+use std::alloc::Global;
+use svn_types::Text;
+
+/// Bytes that come piece by piece, as those of a file that isn't held in memory.
+pub trait Pieces {
+    ghost use Rattle.std.specs.Prelude.{◌≡◌, ℕ, List, ◌++◌, MatchOption, ⊤};
+
+    /// All bytes that were given so far.
+    ghost given: { Self → List ℕ };
+
+    /// Nothing more comes. By default nothing is said of that.
+    ghost is_over: { Self → Type 0 } = { λ _. ⊤ };
+
+    /// The next piece, of one byte or more; none once all were given.
+    fn next_piece(&mut self, alloc: Global) -> Option<Text>
+        ensures given { MatchOption result (given self.new ≡ given self.old) (λ piece. given self.new ≡ given self.old ++ piece) }
+        ensures over { MatchOption result (is_over self.new) (λ piece. ⊤) };
+}
+
+// All pieces, one after the other. An error leaves those that have come so far as given.
+pub(crate) fn all_of<P: Pieces>(alloc: Global, pieces: &mut P) -> Result<Text, FolderFault>
+    ensures given { Gives (P.given pieces.old) (P.given pieces.new) }
+    ensures bytes { IfOk result (λ bytes. P.given pieces.new ≡ P.given pieces.old ++ bytes) }
+    ensures over { OnOk result (P.is_over pieces.new) }
+{
+    let mut bytes = Vec::new(alloc);
+    'pieces: for _ in 0..u64::MAX {
+        let Some(piece) = pieces.next_piece(alloc) else {
+            return Ok(Text::new(bytes));
+        };
+        bytes.extend_from_slice(piece.as_slice())?;
+    }
+    // so many pieces fit into no memory
+    Err(FolderFault::Memory)
+}
