@@ -10,6 +10,7 @@ use crate::fault::DiskFault;
 use crate::layout::{Admin, is_reserved};
 use crate::node_file::file_of;
 use crate::prepared::{Prepared, prepare};
+use crate::read_back::read_back;
 use crate::settle::settle;
 use crate::source::Source;
 use crate::texts::Texts;
@@ -60,6 +61,14 @@ struct Progress {
     work: Vec<Work>,
     // How many files have names of their own.
     files: usize,
+}
+
+// A checkout whose administrative folder is made, but for its name.
+#[derive(Drop)]
+struct LaidOut {
+    progress: Progress,
+    // The database that it has.
+    image: Text,
 }
 
 // What all of a checkout is made with.
@@ -278,7 +287,7 @@ fn lay_out<F: Folder, S: Source>(
     source: &mut S,
     what: &Checkout<'_>,
     admin: &Admin,
-) -> Result<Progress, DiskFault>
+) -> Result<LaidOut, DiskFault>
     ensures { Goes (is_inside admin.now.name) (F.past folder.old) result (F.past folder.new) }
 {
     make_admin(alloc, folder, admin)?;
@@ -289,13 +298,13 @@ fn lay_out<F: Folder, S: Source>(
         time: what.time,
     };
     let mut progress = prepare_all(&making, folder, source, what)?;
-    let image = image_with_work(alloc, &mut progress)?;
-    let database = admin.database(alloc)?;
-    admin.make(folder, database, Entry::File(Text::new(image), Mode::PLAIN))?;
-    Ok(progress)
+    let image = Text::new(image_with_work(alloc, &mut progress)?);
+    let database = Entry::File(image.clone()?, Mode::PLAIN);
+    admin.make(folder, admin.database(alloc)?, database)?;
+    Ok(LaidOut { progress, image })
 }
 
-// The same, and all of it is on the disk. Up to then a crash leaves no copy.
+// The same, and all of it is on the disk and was read back. Up to then a crash leaves no copy.
 fn lay_out_on_disk<F: Folder, S: Source>(
     alloc: Global,
     folder: &mut SyncedFolder<F>,
@@ -307,8 +316,9 @@ fn lay_out_on_disk<F: Folder, S: Source>(
     ensures crash { Leaves IsNoCopy (F.past folder.old.folder) (F.past folder.new.folder) }
     ensures synced { what.now.sync ≡ true → OnOk result (IsSyncedPast (F.past folder.new.folder)) }
 {
-    let progress = lay_out(alloc, folder, source, what, admin)?;
+    let LaidOut { progress, image } = lay_out(alloc, folder, source, what, admin)?;
     settle(alloc, folder, what.sync)?;
+    read_back(alloc, folder, admin, what.copy, &image)?;
     Ok(progress)
 }
 

@@ -8,7 +8,7 @@ use crate::layout::Admin;
 use crate::node_file::file_of;
 use crate::prepared::{Prepared, prepare, target_of};
 use crate::steps::remove_if_any;
-use crate::texts::{size_at, sum_of};
+use crate::texts::{has_text, sum_of};
 use std::alloc::Global;
 use svn_folder::{Folder, Summary};
 use svn_model::BaseNode;
@@ -31,20 +31,6 @@ fn file_at<'a>(existing: &'a Existing, path: &RelPath) -> Option<(&'a Text, &'a 
     match existing.copy.get(path) {
         Some(node) => file_of(node),
         None => None,
-    }
-}
-
-// Refuses a file whose pristine text isn't the one that its stand-in names.
-fn refuse_no_text<F: Folder>(
-    alloc: Global,
-    folder: &F,
-    place: &RelPath,
-    path: &RelPath,
-    name: &Text,
-) -> Result<(), DiskFault> {
-    match size_at(alloc, folder, place, &sum_of(alloc, name)?)? {
-        Some(_) => Ok(()),
-        None => Err(DiskFault::NoText(path.clone()?)),
     }
 }
 
@@ -73,11 +59,13 @@ fn refuse_file<F: Folder>(
     let Some((name, props)) = file_at(existing, path) else {
         return Err(DiskFault::Foreign);
     };
-    let place = admin.text(alloc, name.as_slice())?;
-    refuse_no_text(alloc, folder, &place, path, name)?;
+    if !has_text(alloc, folder, admin, name)? {
+        return Err(DiskFault::NoText(path.clone()?));
+    }
     let Some(found) = folder.sum(alloc, path)? else {
         return Ok(());
     };
+    let place = admin.text(alloc, name.as_slice())?;
     let target = target_of(alloc, folder, &place, props)?;
     if is_same(alloc, &found, name, target.as_ref())? {
         Ok(())

@@ -47,6 +47,9 @@ pub enum DiskFault {
     /// Not all was on the disk before it counted. This is a fault of this crate.
     #[error("not all of it is on the disk")]
     NotSynced,
+    /// The database that was written isn't the one that is read. This is a fault of the system's.
+    #[error("the database isn't read as it was written")]
+    NoImage,
     /// The folder refuses a step, or fails.
     #[error("{0}")]
     Folder(FolderFault),

@@ -17,7 +17,7 @@
 //! | `layout`, `inside` | where a copy keeps what it knows; steps in that folder |
 //! | `steps`, `settle` | steps of a folder that belong together; what was done, brought to the disk |
 //! | `node_file` | what a file is on disk, by its text and properties |
-//! | `source`, `texts`, `prepared` | where texts come from; pristine texts; files under names of their own |
+//! | `source`, `texts`, `prepared`, `read_back` | where texts come from; pristine texts; files under names of their own; what was written, read back |
 //! | `inherited` | the properties that a copy's root inherits |
 //! | `carry` | the work of a new copy, done |
 //! | `checkout` | a new copy |
@@ -46,6 +46,7 @@ mod laws;
 mod layout;
 mod node_file;
 mod prepared;
+mod read_back;
 mod settle;
 mod source;
 mod steps;
@@ -56,4 +57,4 @@ pub use completion::{Resumed, resume};
 pub use fault::DiskFault;
 pub use inherited::inherited_props;
 pub use laws::a_directory_is_renamed_at_once;
-pub use source::Source;
+pub use source::{Source, TextSums};

@@ -4,12 +4,12 @@ ghost use Rattle.svn_disk_update.specs.Places.{is_inside};
 
 use crate::fault::DiskFault;
 use crate::layout::Admin;
-use crate::source::Source;
+use crate::source::{Source, TextSums};
 use std::alloc::Global;
 use std::collections::BTreeMap;
 use svn_digits::stand_in_of;
 use svn_folder::{Folder, Mode, Summary};
-use svn_types::{Digest, RelPath, Sha1Sum, Text};
+use svn_types::{RelPath, Sha1Sum, Text};
 use svn_wcdb::TableRow;
 use svn_wcrows::pristine_record;
 
@@ -36,16 +36,17 @@ pub(crate) fn sum_of(alloc: Global, name: &Text) -> Result<Sha1Sum, DiskFault> {
     }
 }
 
-/// The size in bytes of the file at a place in the folder, if it has this checksum.
-pub(crate) fn size_at<F: Folder>(
+/// Whether a text is in the folder under its name: a file with the checksum that its stand-in says.
+pub(crate) fn has_text<F: Folder>(
     alloc: Global,
     folder: &F,
-    place: &RelPath,
-    sum: &Sha1Sum,
-) -> Result<Option<u64>, DiskFault> {
-    Ok(match folder.sum(alloc, place)? {
-        Some(Summary::File { len, sha1, .. }) if sha1 == *sum => Some(len),
-        _ => None,
+    admin: &Admin,
+    name: &Text,
+) -> Result<bool, DiskFault> {
+    let place = admin.text(alloc, name.as_slice())?;
+    Ok(match folder.sum(alloc, &place)? {
+        Some(Summary::File { sha1, .. }) => sha1 == sum_of(alloc, name)?,
+        _ => false,
     })
 }
 
@@ -65,15 +66,14 @@ impl Texts {
         }
     }
 
-    // Writes a text under its name, and returns its size. NoText where it isn't the one that is named.
+    // Writes a text under its name.
     fn put<F: Folder, S: Source>(
         &self,
         folder: &mut F,
         source: &mut S,
         admin: &Admin,
         name: &Text,
-        sum: &Sha1Sum,
-    ) -> Result<Option<u64>, DiskFault>
+    ) -> Result<(), DiskFault>
         ensures { Goes (is_inside admin.now.name) (F.past folder.old) result (F.past folder.new) }
     {
         let place = admin.text(self.alloc, name.as_slice())?;
@@ -83,22 +83,17 @@ impl Texts {
         };
         admin.make_directory_if_none(self.alloc, folder, &above)?;
         admin.make_text(self.alloc, folder, &new, PRISTINE, source)?;
-        let Some(size) = size_at(self.alloc, folder, &new, sum)? else {
-            return Ok(None);
-        };
-        admin.rename(folder, &new, &place)?;
-        Ok(Some(size))
+        admin.rename(folder, &new, &place)
     }
 
     // Adds the row of a text.
     fn push_row(
-        &mut self,
+        &self,
         rows: &mut Vec<TableRow>,
         name: &Text,
-        size: u64,
-        md5: &Digest,
+        known: &TextSums,
     ) -> Result<(), DiskFault> {
-        let bytes = pristine_record(self.alloc, name.as_slice(), size, md5)?;
+        let bytes = pristine_record(self.alloc, name.as_slice(), known.len, &known.md5)?;
         let rowid = match rows.last() {
             Some(row) => row.rowid.saturating_add(1),
             None => 1,
@@ -107,7 +102,8 @@ impl Texts {
         Ok(())
     }
 
-    /// Keeps the text of a file, and gives it a row, unless it is kept already. Returns its size in bytes. NoText where the source doesn't give it.
+    /// Keeps the text of a file, and gives it a row, unless it is kept already. Returns its size in bytes. NoText where the source doesn't give it. Whether
+    /// it is the text that is named is seen when it is read back.
     pub(crate) fn keep<F: Folder, S: Source>(
         &mut self,
         folder: &mut F,
@@ -123,14 +119,12 @@ impl Texts {
         if let Some(size) = self.sizes.get(&sum.0) {
             return Ok(*size);
         }
-        let Some(md5) = source.begin_text(&sum) else {
+        let Some(known) = source.begin_text(&sum) else {
             return Err(DiskFault::NoText(path.clone()?));
         };
-        let Some(size) = self.put(folder, source, admin, name, &sum)? else {
-            return Err(DiskFault::NoText(path.clone()?));
-        };
-        self.push_row(rows, name, size, &md5)?;
-        self.sizes.insert(sum.0, size)?;
-        Ok(size)
+        self.put(folder, source, admin, name)?;
+        self.push_row(rows, name, &known)?;
+        self.sizes.insert(sum.0, known.len)?;
+        Ok(known.len)
     }
 }

@@ -7,12 +7,12 @@ use std::io::{Read, Seek, SeekFrom};
 use std::os::unix::fs::OpenOptionsExt;
 use std::rt::Files;
 use std::{fs, io};
-use svn_disk_update::Source;
+use svn_disk_update::{Source, TextSums};
 use svn_dump::{DumpIndex, Limits, Reader, Texts};
 use svn_folder::Pieces;
 use svn_history::{LoadListener, Loader, last_change};
 use svn_repo::Repo;
-use svn_types::{Digest, PathFault, RelPath, Rev, Sha1Sum, Text};
+use svn_types::{PathFault, RelPath, Rev, Sha1Sum, Text};
 use svn_wcrows::LastChange;
 
 /// So many bytes of a text are read at once.
@@ -152,11 +152,14 @@ impl<R: Read + Seek + Drop> Pieces for DumpSource<'_, R> {
 }
 
 impl<R: Read + Seek + Drop> Source for DumpSource<'_, R> {
-    fn begin_text(&mut self, sha1: &Sha1Sum) -> Option<Digest> {
+    fn begin_text(&mut self, sha1: &Sha1Sum) -> Option<TextSums> {
         let place = self.history.index.text(sha1)?;
         self.left = place.len;
         match self.texts.seek(SeekFrom::Start(place.begin)) {
-            Ok(_) => Some(place.md5),
+            Ok(_) => Some(TextSums {
+                len: place.len,
+                md5: place.md5,
+            }),
             Err(_) => None,
         }
     }

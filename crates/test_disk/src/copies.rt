@@ -3,7 +3,7 @@
 use anyhow::Result;
 use std::alloc::{AllocError, Global};
 use svn_digits::stand_in;
-use svn_disk_update::{Checkout, Source, check_out};
+use svn_disk_update::{Checkout, Source, TextSums, check_out};
 use svn_folder::{Folder, MemoryFolder, Pieces, StoppedFolder, SyncedFolder, an_empty_folder_is_synced};
 use svn_repo::{Change, PropName, Repo};
 use svn_types::{Digest, RelPath, Rev, Sha1Sum, Text};
@@ -44,11 +44,14 @@ impl Pieces for Known {
 }
 
 impl Source for Known {
-    fn begin_text(&mut self, sha1: &Sha1Sum) -> Option<Digest> {
+    fn begin_text(&mut self, sha1: &Sha1Sum) -> Option<TextSums> {
         for (_, text, _) in FILES {
             if Sha1Sum::of(text.as_bytes()) == *sha1 {
                 self.begun = Some(text);
-                return Some(Digest::of(text.as_bytes()));
+                return Some(TextSums {
+                    len: text.len() as u64,
+                    md5: Digest::of(text.as_bytes()),
+                });
             }
         }
         None
