@@ -93,7 +93,13 @@ for n in $(seq 1 3 "$renames") "$renames"; do
     rm -rf ours again
     (strace -f -e trace=rename -e inject=rename:signal=SIGKILL:when="$n" -o /dev/null "$SVNCOPY" checkout dump "$url@8" ours; true) >/dev/null 2>&1
     if [ ! -d ours/.svn ]; then
-        refused "cut off at rename $n, again" "svncopy: ours: a checkout was cut off: remove .svn-new" "$SVNCOPY" checkout dump "$url@8" ours
+        refused "cut off at rename $n, again" "svncopy: ours: a checkout was cut off: \`svncopy resume\` removes what it left" "$SVNCOPY" checkout dump "$url@8" ours
+        "$SVNCOPY" resume ours >got
+        echo "ours: no copy: removed what a checkout left" >wanted
+        same "cut off at rename $n, cleared" wanted got
+        "$SVNCOPY" checkout dump "$url@8" ours >/dev/null
+        "$here/rows.py" ours >got
+        same "cut off at rename $n, cleared and made" wanted8 got
         continue
     fi
     copies=$((copies + 1))

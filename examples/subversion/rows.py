@@ -3,7 +3,7 @@
 
     rows.py WC
 
-Left out are the time of a file, the last change of a node, and, where keywords are expanded, the size and the bytes of the file.
+Left out are the time of a file and, where keywords are expanded, its size and its bytes.
 """
 import hashlib
 import os
@@ -15,7 +15,8 @@ from trees import path_word, word
 
 TABLES = ("repository", "wcroot", "actual_node", "lock", "work_queue", "wc_lock", "externals", "sqlite_sequence")
 COLUMNS = "wc_id, local_relpath, op_depth, parent_relpath, repos_id, repos_path, revision, presence, moved_here, moved_to, kind, properties, depth, " \
-    "checksum, symlink_target, translated_size, last_mod_time, file_external, inherited_props"
+    "checksum, symlink_target, translated_size, last_mod_time, file_external, inherited_props, " \
+    "changed_revision, changed_date, changed_author"
 
 
 def inherited(text):

@@ -174,7 +174,8 @@ impl<R: Read + Seek + Drop> Source for DumpSource<'_, R> {
         match last_change(alloc, repo, index, rev, path) {
             Ok(Some(change)) => Ok(Some(LastChange {
                 rev: change.rev,
-                date: change.date,
+                // as a client writes it of a revision without a date
+                date: Some(change.date.unwrap_or(0)),
                 author: change.author,
             })),
             Ok(None) => Ok(None),
