@@ -25,3 +25,5 @@ mod Refusing
 mod Joining
 -- back through the steps
 mod Back
+-- several steps, as far as they are taken
+mod Several

@@ -29,6 +29,7 @@
 //! The tests are in `test_folder`.
 #![tactic(auto)]
 
+mod at_once;
 mod disk;
 mod entry;
 mod fault;

@@ -6,6 +6,7 @@ mod tables;
 
 use anyhow::{Result, bail};
 use std::alloc::Global;
+use std::fs::File;
 use std::path::PathBuf;
 use std::rt::Files;
 use std::thread::Threads;
@@ -106,7 +107,7 @@ fn take_both<R: Print + AllocGlobal, F: Folder, G: Folder>(
 }
 
 // The folder on disk, which is empty.
-fn tried<R: Files + Threads + Sync + AllocGlobal>(rt: &R) -> Result<DiskFolder<'_, R>> {
+fn tried<R: Files<File = File> + Threads + AllocGlobal>(rt: &R) -> Result<DiskFolder<'_, R>> {
     if std::fs::exists(rt, TRIED)? {
         std::fs::remove_dir_all(rt, TRIED)?;
     }
@@ -114,7 +115,7 @@ fn tried<R: Files + Threads + Sync + AllocGlobal>(rt: &R) -> Result<DiskFolder<'
     Ok(DiskFolder::new(rt, PathBuf::from_str(rt.alloc(), TRIED)?))
 }
 
-fn try_both<R: Files + Threads + Sync + Print + AllocGlobal>(rt: &R) -> Result<()> {
+fn try_both<R: Files<File = File> + Threads + Print + AllocGlobal>(rt: &R) -> Result<()> {
     let mut memory = MemoryFolder::new(rt.alloc());
     let mut disk = SyncedFolder::new(rt.alloc(), tried(rt)?);
     for act in ACTS {
