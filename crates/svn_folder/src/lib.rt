@@ -57,7 +57,7 @@ pub use laws::{
     what_is_synced_stays_meanwhile,
 };
 pub use memory::MemoryFolder;
-pub use pieces::Pieces;
+pub use pieces::{BytePieces, Pieces};
 pub use step::Step;
 pub use stopped::StoppedFolder;
 pub use summary::Summary;

@@ -1,5 +1,5 @@
 //! Bytes that come piece by piece.
-ghost use Rattle.std.specs.Prelude.{◌≡◌, ◌++◌, IfOk, OnOk};
+ghost use Rattle.std.specs.Prelude.{◌≡◌, ◌≤◌, ◌⊎◌, ◌++◌, true, take, length, IfOk, OnOk};
 ghost use Rattle.svn_folder.specs.Files.{Gives};
 
 use crate::fault::FolderFault;
@@ -37,4 +37,50 @@ pub(crate) fn all_of<P: Pieces>(alloc: Global, pieces: &mut P) -> Result<Text, F
     }
     // so many pieces fit into no memory
     Err(FolderFault::Memory)
+}
+
+/// Bytes that are in memory, as pieces.
+#[derive(Drop)]
+pub struct BytePieces<'a> {
+    bytes: &'a [u8],
+    size: usize,
+    at: usize,
+    is_short: bool,
+    ghost bound: { at ≤ length bytes.now },
+}
+
+impl<'a> BytePieces<'a> {
+    /// Pieces of so many bytes each, and of one at least; the last one may have fewer. If an allocation fails no more come.
+    pub fn new(bytes: &'a [u8], size: usize) -> BytePieces<'a> {
+        BytePieces {
+            bytes,
+            size: size.max(1),
+            at: 0,
+            is_short: false,
+        }
+    }
+}
+
+impl Pieces for BytePieces<'_> {
+    ghost given = { λ p. take p.at p.bytes.now };
+
+    ghost is_over = { λ p. (p.at ≡ length p.bytes.now) ⊎ (p.is_short ≡ true) };
+
+    fn next_piece(&mut self, alloc: Global) -> Option<Text> {
+        let rest = self.bytes.len() - self.at;
+        if rest == 0 || self.is_short {
+            return None;
+        }
+        let end = self.at + rest.min(self.size);
+        match Text::from_slice(alloc, &self.bytes[self.at..end]) {
+            Ok(piece) => {
+                self.at = end;
+                Some(piece)
+            }
+            Err(_) => {
+                self.is_short = true;
+                None
+            }
+        }
+    }
 }
