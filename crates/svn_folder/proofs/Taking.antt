@@ -59,7 +59,7 @@ nothing_taken steps none =
 pub marks_synced : (paths : List Path) (past new_past : Past) (marks : Marks) → TakesAll (file_syncs paths) past (Ok tt) new_past
     → AreMarksOf past marks → AreMarksOf new_past (without_files paths marks)
 marks_synced [] past new_past marks (ok, same) are = subst (λ (x : Past). AreMarksOf x marks) (sym same) are
-marks_synced (p ∷ paths) past new_past marks (inl refused) are = absurd refused.0
+marks_synced (p ∷ paths) past new_past marks (inl refused) are = absurd (true≢false (sym refused.0))
 marks_synced (p ∷ paths) past new_past marks (inr (between, taken, takes)) are =
     let rest = without (Bytes p) marks in
     marks_synced paths between new_past rest takes
@@ -67,7 +67,7 @@ marks_synced (p ∷ paths) past new_past marks (inr (between, taken, takes)) are
 
 pub marks_unsynced : (paths : List Path) (past new_past : Past) (fault : FolderFault) (marks : Marks) → TakesAll (file_syncs paths) past (Err fault) new_past
     → AreMarksOf past marks → AreMarksOf new_past marks
-marks_unsynced [] past new_past fault marks takes are = absurd takes.0
+marks_unsynced [] past new_past fault marks takes are = absurd (true≢false (sym takes.0))
 marks_unsynced (p ∷ paths) past new_past fault marks (inl (failed, takes)) are =
     marks_refused (SyncFile p) past new_past fault marks marks (within_itself marks) takes are
 marks_unsynced (p ∷ paths) past new_past fault marks (inr (between, taken, takes)) are =

@@ -238,17 +238,13 @@ impl Unsynced {
             Done::Nothing => {}
             Done::Bytes(path) => self.unmark_bytes(path),
             Done::Names(path) => unmark(&mut self.directories, path),
-            Done::Unknown => self.forget(),
+            Done::Unknown => {
+                // nothing can be synced by its mark any more
+                self.is_unknown = true;
+                self.files.clear();
+                self.directories.clear();
+            }
         }
-    }
-
-    // From now on nothing is known, and nothing can be synced by its mark.
-    fn forget(&mut self)
-        ensures { AreWithin (without Done.Unknown (marks_of self.old)) (marks_of self.new) }
-    {
-        self.is_unknown = true;
-        self.files.clear();
-        self.directories.clear();
     }
 
     /// Once the bytes of files are on the disk.
