@@ -46,6 +46,9 @@ const MAX_OPEN: usize = 256;
 /// A folder of the system. Each step is the calls that it names, and a look before it at what the system wouldn't refuse. What the system refuses is
 /// `Failed`, with its error, also where the step doesn't fit.
 ///
+/// `make_file` writes each piece as it comes, and `copy_file` from file to file, so that neither holds a text. The step of an error of theirs has no
+/// bytes. `sync_files` opens up to 256 files at a time, and syncs them in up to 16 threads.
+///
 /// No contract says what the system does. That it keeps `specs/Crashes.antt`, that a rename is atomic, and that nobody else changes what is in the
 /// folder between a look and a step, is trusted.
 #[derive(Drop)]
