@@ -25,3 +25,7 @@ mod Refusing
 mod Joining
 -- back through the steps
 mod Back
+-- several steps, as far as they are taken
+mod Several
+-- files that are made of pieces, or from another one
+mod Filing

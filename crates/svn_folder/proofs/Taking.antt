@@ -1,14 +1,20 @@
 -- Marks at what isn't on the disk, when a step is taken or refused.
 use Rattle.std.proofs.Common.{◌≡◌, false, inl, inr, List, [], ◌∷◌, ◌++◌, refl, sym, ◌∙◌, ap, subst, true≢false}
 use Rattle.std.specs.Prelude.{Ok, Err}
+use Rattle.svn_types.specs.Names.{Path}
 use Rattle.svn_folder.specs.declared.step.Step.{Step}
+use Rattle.svn_folder.specs.declared.step.Step.TheVariants.{SyncFile}
+use Rattle.svn_folder.specs.declared.unsynced.Done.TheVariants.{Bytes}
 use Rattle.svn_folder.specs.declared.fault.FolderFault.{FolderFault}
 use Rattle.svn_folder.specs.States.{State, empty}
 use Rattle.svn_folder.specs.Steps.{run, after}
 use Rattle.svn_folder.specs.Pasts.{Past, Unknown, Known, Broken, Takes, is_known}
 use Rattle.svn_folder.specs.Syncing.{Marks, no_marks, IsSyncedBut, AreWithin, AreEnough, AreMarksOf, IsSyncedPast}
+use Rattle.svn_folder.specs.Marking.{without, without_files}
+use Rattle.svn_folder.specs.Files.{TakesAll, file_syncs}
 use Rattle.svn_folder.proofs.Showing.{run_append}
 use Rattle.svn_folder.proofs.Marked.{within_marks}
+use Rattle.svn_folder.proofs.Unsyncing.{within_itself, file_kept, file_synced}
 use Rattle.svn_folder.proofs.Settled.{empty_synced}
 
 -- the state after all steps, where these are known
@@ -47,3 +53,23 @@ marks_refused step (Broken s steps) new_past fault marks new within takes are = 
 pub nothing_taken : (steps : List Step) → steps ≡ [] → IsSyncedPast (Known empty steps)
 nothing_taken steps none =
     known_marks (Known empty steps) no_marks empty steps refl (subst (λ (l : List Step). IsSyncedBut no_marks (run empty l)) (sym none) empty_synced)
+
+-- ---- several files are synced
+
+pub marks_synced : (paths : List Path) (past new_past : Past) (marks : Marks) → TakesAll (file_syncs paths) past (Ok tt) new_past
+    → AreMarksOf past marks → AreMarksOf new_past (without_files paths marks)
+marks_synced [] past new_past marks (ok, same) are = subst (λ (x : Past). AreMarksOf x marks) (sym same) are
+marks_synced (p ∷ paths) past new_past marks (inl refused) are = absurd (true≢false (sym refused.0))
+marks_synced (p ∷ paths) past new_past marks (inr (between, taken, takes)) are =
+    let rest = without (Bytes p) marks in
+    marks_synced paths between new_past rest takes
+    (marks_taken (SyncFile p) past between marks rest rest (file_synced marks p p refl) (within_itself rest) taken are)
+
+pub marks_unsynced : (paths : List Path) (past new_past : Past) (fault : FolderFault) (marks : Marks) → TakesAll (file_syncs paths) past (Err fault) new_past
+    → AreMarksOf past marks → AreMarksOf new_past marks
+marks_unsynced [] past new_past fault marks takes are = absurd (true≢false (sym takes.0))
+marks_unsynced (p ∷ paths) past new_past fault marks (inl (failed, takes)) are =
+    marks_refused (SyncFile p) past new_past fault marks marks (within_itself marks) takes are
+marks_unsynced (p ∷ paths) past new_past fault marks (inr (between, taken, takes)) are =
+    marks_unsynced paths between new_past fault marks takes
+    (marks_taken (SyncFile p) past between marks marks marks (file_kept marks p) (within_itself marks) taken are)

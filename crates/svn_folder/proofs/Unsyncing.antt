@@ -1,5 +1,5 @@
 -- Marks that are enough after each step, as a program keeps them.
-use Rattle.std.proofs.Common.{◌≡◌, ℕ, Bool, true, false, ◌&&◌, ◌||◌, ◌⊎◌, inl, inr, not, List, [], refl, sym, ◌∙◌, ap, subst, true≢false}
+use Rattle.std.proofs.Common.{◌≡◌, ℕ, Bool, true, false, ◌&&◌, ◌||◌, ◌⊎◌, inl, inr, not, List, [], ◌∷◌, length, refl, sym, ◌∙◌, ap, subst, true≢false, arith}
 use Rattle.std.specs.Prelude.{Option, cond, Result, Ok, Err, IfOk, OnOk}
 use Rattle.std.proofs.lemmas.Bool.{and_parts}
 use Rattle.std.specs.BTreeSet.{BTreeSet, contains}
@@ -19,7 +19,7 @@ use Rattle.svn_folder.specs.Entries.{is_file, is_leaf, has_directory}
 use Rattle.svn_folder.specs.States.{State, seen, nothing}
 use Rattle.svn_folder.specs.Steps.{put, fits, after, is_none_older}
 use Rattle.svn_folder.specs.Syncing.{Marks, no_marks, IsSyncedBut, AreWithin, AreEnough, AreEnoughFor}
-use Rattle.svn_folder.specs.Marking.{without}
+use Rattle.svn_folder.specs.Marking.{without, without_files}
 use Rattle.svn_folder.proofs.Marked.{or_right, or_false, off_parent, leaf_apart, within_marks, make_enough, remove_file_enough, remove_directory_enough, rename_enough, sync_file_enough, root_named}
 use Rattle.svn_folder.proofs.Named.{sync_kept, sync_counted, counts_unmarked, move_marked, move_synced}
 
@@ -57,11 +57,32 @@ marked_if (Err e) b old new p h = tt
 pub within_chain : (one two three : Marks) → AreWithin one two → AreWithin two three → AreWithin one three
 within_chain one two three h k p = (λ x. (k p).0 ((h p).0 x), λ x. (k p).1 ((h p).1 x))
 
-within_itself : (marks : Marks) → AreWithin marks marks
+pub within_itself : (marks : Marks) → AreWithin marks marks
 within_itself marks p = (λ x. x, λ x. x)
 
 kept : (q p : Path) (b : Bool) → path_eq q p ≡ false → b ≡ true → (not (path_eq q p) && b) ≡ true
 kept q p b e h = ap (λ x. not x && b) e ∙ h
+
+-- ---- several files
+
+without_both : (q : Path) (one two : Marks) → AreWithin one two → AreWithin (without (Bytes q) one) (without (Bytes q) two)
+without_both q one two h p =
+    (λ m. let parts = and_parts (not (path_eq q p)) (one.files p) m in ap (λ b. b && two.files p) parts.0 ∙ (h p).0 parts.1, (h p).1)
+
+files_both : (paths : List Path) (one two : Marks) → AreWithin one two → AreWithin (without_files paths one) (without_files paths two)
+files_both [] one two h = h
+files_both (q ∷ paths) one two h = files_both paths (without (Bytes q) one) (without (Bytes q) two) (without_both q one two h)
+
+-- one more is on the disk
+pub files_next : (paths more : List Path) (q : Path) (marks one two : Marks) → paths ≡ q ∷ more → AreWithin marks (without_files paths one)
+    → AreWithin (without (Bytes q) one) two → AreWithin marks (without_files more two)
+files_next paths more q marks one two is h k =
+    within_chain marks (without_files (q ∷ more) one) (without_files more two)
+    (subst (λ (l : List Path). AreWithin marks (without_files l one)) is h) (files_both more (without (Bytes q) one) two k)
+
+pub files_all : (paths : List Path) (marks one : Marks) → length paths ≡ 0 → AreWithin marks (without_files paths one) → AreWithin marks one
+files_all [] marks one none h = h
+files_all (q ∷ paths) marks one none h = absurd (omega arith)
 
 -- ---- each step
 
@@ -76,6 +97,10 @@ module _ (old new : Marks) (within : AreWithin old new) where
   made_file q e bytes mode is name marked t =
       made q e t name (ap (λ b. b || not (is_file e)) marked)
       (λ none. absurd (true≢false (sym none ∙ ap (λ (x : Entry). not (is_leaf x)) is)))
+
+  pub file_made : (q : Path) → new.directories (parent q) ≡ true → new.files q ≡ true
+      → (bytes : List ℕ) (mode : Mode) (t : Option ℕ) → AreEnough (Make q (File bytes mode) t) old new
+  file_made q name marked bytes mode t = made_file q (File bytes mode) bytes mode refl name marked t
 
   pub made_directory : (q : Path) (e : Entry) → e ≡ Directory → new.directories (parent q) ≡ true → new.directories q ≡ true
       → (t : Option ℕ) → AreEnough (Make q e t) old new
@@ -170,6 +195,9 @@ module _ (marks : Marks) where
   file_synced q r same s on fit =
       subst (λ (x : Path). IsSyncedBut (without (Bytes x) marks) (after (SyncFile q) s)) (sym same)
       (sync_file_enough marks (without (Bytes q) marks) q s on (λ p h m. kept q p (marks.files p) h m) (λ p m. m))
+
+  pub file_kept : (q : Path) → AreEnough (SyncFile q) marks marks
+  file_kept q s on fit = sync_file_enough marks marks q s on (λ p h m. m) (λ p m. m)
 
   pub directory_kept : (d : Path) → AreEnough (SyncDirectory d) marks marks
   directory_kept d s on fit = sync_kept marks marks d s on (λ p m. m) (λ p m. m)

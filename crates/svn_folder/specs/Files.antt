@@ -3,7 +3,8 @@
 --     CopiesFile ..      what a copy of a file makes of it
 --     TakesAll steps old result new      what steps make of it, one after the other, as far as they are taken
 --     TakesSyncs old result new      the same of steps that sync, whichever they are
-use Rattle.std.specs.Prelude.{◌≡◌, ◌⊎◌, ℕ, Bool, true, false, List, [], ◌∷◌, ◌++◌, Option, Some, Result, Ok, IsOk, IsErr, OnOk, ⊤}
+use Rattle.std.specs.Prelude.{◌≡◌, ◌⊎◌, ℕ, Bool, true, false, List, [], ◌∷◌, Option, Some, Result, Ok, IsOk, IsErr, OnOk, ⊤}
+use Rattle.std.specs.Io.KnownBytes.{Appends}
 use Rattle.svn_types.specs.Names.{Path}
 use Rattle.svn_folder.specs.declared.entry.Mode.{Mode}
 use Rattle.svn_folder.specs.declared.entry.Entry.TheVariants.{File}
@@ -15,13 +16,13 @@ use Rattle.svn_folder.specs.Pasts.{Past, Takes, Shows}
 -- ---- files
 
 -- some bytes were given
-abbrev pub Gives : List ℕ → List ℕ → Type 0
-Gives old new = (bytes : List ℕ) × (new ≡ old ++ bytes)
+abbrev pub Gives : Option (List ℕ) → Option (List ℕ) → Type 0
+Gives old new = (bytes : List ℕ) × Appends old new bytes
 
 -- a file is made at a path, of the bytes that were given meanwhile
-pub record MakesFile (p : Path) (mode : Mode) (t : Option ℕ) (given all : List ℕ) (old : Past) (result : Result (Unit {0}) FolderFault) (new : Past) : Type 0 where
+pub record MakesFile (p : Path) (mode : Mode) (t : Option ℕ) (given all : Option (List ℕ)) (old : Past) (result : Result (Unit {0}) FolderFault) (new : Past) : Type 0 where
   pub bytes : List ℕ
-  pub given_since : all ≡ given ++ bytes
+  pub given_since : Appends given all bytes
   pub takes : Takes (Make p (File bytes mode) t) old result new
 
 -- a file is made at the path q, with the bytes of the one at the path p

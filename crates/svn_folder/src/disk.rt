@@ -2,6 +2,7 @@
 ghost use Rattle.std.specs.Prelude.{◌<◌, OnOk};
 ghost use Rattle.svn_folder.specs.Files.{Gives};
 
+use crate::at_once::{Opened, sync_at_once};
 use crate::entry::{Entry, Mode};
 use crate::fault::{FolderFault, Misfit};
 use crate::folder::Folder;
@@ -17,10 +18,9 @@ use std::io::{ErrorKind, Read, Write};
 use std::os::unix::fs::{OpenOptionsExt, PermissionsExt, symlink};
 use std::path::PathBuf;
 use std::rt::Files;
-use std::thread;
 use std::thread::Threads;
 use std::time::{Duration, SystemTime, UNIX_EPOCH};
-use std::{fs, io};
+use std::{fs, io, thread};
 use svn_types::{Name, PathFault, RelPath, Sha1Sum, Text};
 
 /// Everybody may read.
@@ -40,8 +40,14 @@ const MAX_THREADS: usize = 16;
 /// A thread syncs at least so many files.
 const MIN_SHARE: usize = 8;
 
+/// So many files may be open at once.
+const MAX_OPEN: usize = 256;
+
 /// A folder of the system. Each step is the calls that it names, and a look before it at what the system wouldn't refuse. What the system refuses is
 /// `Failed`, with its error, also where the step doesn't fit.
+///
+/// `make_file` writes each piece as it comes, and `copy_file` from file to file, so that neither holds a text. The step of an error of theirs has no
+/// bytes. `sync_files` opens up to 256 files at a time, and syncs them in up to 16 threads.
 ///
 /// No contract says what the system does. That it keeps `specs/Crashes.antt`, that a rename is atomic, and that nobody else changes what is in the
 /// folder between a look and a step, is trusted.
@@ -103,7 +109,7 @@ fn is_absent(error: &io::Error) -> bool {
     matches!(error.kind(), ErrorKind::NotFound | ErrorKind::NotADirectory)
 }
 
-impl<'a, T: Files + Threads + Sync + AllocGlobal> DiskFolder<'a, T> {
+impl<'a, T: Files<File = File> + Threads + AllocGlobal> DiskFolder<'a, T> {
     /// The folder at a path of the system. Nothing is looked at.
     pub fn new(rt: &'a T, root: PathBuf) -> DiskFolder<'a, T> {
         DiskFolder { rt, root }
@@ -367,28 +373,76 @@ impl<'a, T: Files + Threads + Sync + AllocGlobal> DiskFolder<'a, T> {
         }
     }
 
-    // Syncs files one after the other, up to the first that fails.
-    fn sync_share(&self, paths: &[RelPath]) -> Result<(), FolderFault> {
+    // Opens a file to sync it. It is refused as `try_step` does.
+    fn open_file(&self, path: &RelPath) -> Result<File, FolderFault> {
+        let step = Step::SyncFile(path.clone()?);
+        let place = self.place(path)?;
+        match self.is_file(&place) {
+            Ok(true) => {}
+            Ok(false) => {
+                return Err(FolderFault::Refused {
+                    step,
+                    misfit: Misfit::NoFile,
+                });
+            }
+            Err(error) => return Err(FolderFault::Failed { step, error }),
+        }
+        match File::open(self.rt, &place) {
+            Ok(file) => Ok(file),
+            Err(error) => Err(FolderFault::Failed { step, error }),
+        }
+    }
+
+    // Opens files one after the other, up to the first that can't be opened.
+    fn open_share(&self, paths: &[RelPath], files: &mut Vec<Opened>) -> Result<(), FolderFault> {
         for path in paths {
-            self.try_step(Step::SyncFile(path.clone()?))?;
+            let file = self.open_file(path)?;
+            files.push(Opened {
+                path: path.clone()?,
+                file,
+            })?;
         }
         Ok(())
     }
 
-    // Syncs files in shares, each in a thread of its own if one can be made. The error is that of the first path that fails.
-    fn sync_shares(&self, paths: &[RelPath]) -> Result<(), FolderFault> {
-        let alloc = self.rt.alloc();
-        let size = share_size(paths.len());
-        let folder = self;
-        let sync = |_: usize, share: &[RelPath]| folder.sync_share(share);
-        for outcome in thread::map_chunks(self.rt, alloc, paths, size, &sync)? {
-            outcome?;
+    // The same, in the shares of the threads that sync them.
+    fn open_shares(
+        &self,
+        paths: &[RelPath],
+        shares: &mut Vec<Vec<Opened>>,
+    ) -> Result<(), FolderFault> {
+        for share in paths.chunks(share_size(paths.len())) {
+            let mut files = Vec::new(self.rt.alloc());
+            let opened = self.open_share(share, &mut files);
+            shares.push(files)?;
+            opened?;
+        }
+        Ok(())
+    }
+
+    // Syncs files at once. What couldn't be opened comes after all that were.
+    fn sync_batch(&self, paths: &[RelPath]) -> Result<(), FolderFault> {
+        let mut shares = Vec::new(self.rt.alloc());
+        let opened = self.open_shares(paths, &mut shares);
+        match sync_at_once(self.rt, self.rt.alloc(), shares)? {
+            Some(fault) => Err(FolderFault::Failed {
+                step: Step::SyncFile(fault.path),
+                error: fault.error,
+            }),
+            None => opened,
+        }
+    }
+
+    // Syncs files, so many at once as may be open.
+    fn sync_batches(&self, paths: &[RelPath]) -> Result<(), FolderFault> {
+        for batch in paths.chunks(MAX_OPEN) {
+            self.sync_batch(batch)?;
         }
         Ok(())
     }
 }
 
-impl<T: Files + Threads + Sync + AllocGlobal> Folder for DiskFolder<'_, T> {
+impl<T: Files<File = File> + Threads + AllocGlobal> Folder for DiskFolder<'_, T> {
     fn take(&mut self, step: Step) -> Result<(), FolderFault> {
         self.try_step(step)
     }
@@ -440,7 +494,7 @@ impl<T: Files + Threads + Sync + AllocGlobal> Folder for DiskFolder<'_, T> {
         if paths.is_empty() {
             return Ok(());
         }
-        self.sync_shares(paths)
+        self.sync_batches(paths)
     }
 
     fn look(&self, _alloc: Global, path: &RelPath) -> Result<Option<Entry>, FolderFault> {

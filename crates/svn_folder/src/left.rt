@@ -1,5 +1,5 @@
 //! What a crash may leave at a path of a folder in memory.
-ghost use Rattle.std.specs.Prelude.{◌≡◌, [], if◌then◌else◌, IfOk, MatchOption};
+ghost use Rattle.std.specs.Prelude.{◌≡◌, ◌⊎◌, [], false, if◌then◌else◌, IfOk, IsTrue, MatchOption};
 ghost use Rattle.svn_folder.specs.States.{Place, State, empty, nothing, fresh, vacant, with_name, becomes};
 ghost use Rattle.svn_folder.specs.Steps.{put, sync_file, sync_directory, is_in, moved, after, run};
 ghost use Rattle.svn_folder.specs.Memory.{IsPlace};
@@ -101,6 +101,21 @@ fn is_inside(alloc: Global, directory: &RelPath, path: &RelPath) -> Result<bool,
     })
 }
 
+// Whether a path stands for the same once the names in a directory are synced: it isn't in it, or its name is on the disk already.
+fn is_settled(
+    alloc: Global,
+    directory: &RelPath,
+    path: &RelPath,
+    left: &Left,
+) -> Result<bool, AllocError>
+    ensures { IfOk result (λ b. IsTrue b → (left.entry.now.older.items ≡ []) ⊎ (is_in directory.now path.now ≡ false)) }
+{
+    if left.older.is_empty() {
+        return Ok(true);
+    }
+    Ok(!is_inside(alloc, directory, path)?)
+}
+
 // Once the names in a directory are synced, if its own name is.
 fn directory_synced(
     alloc: Global,
@@ -153,7 +168,9 @@ fn before_rename(
     Ok(Some(path.clone()?))
 }
 
-/// What the name at a path may stand for after these steps, beginning with nothing. Its time doubles with each rename, and each sync of a directory.
+/// What the name at a path may stand for after these steps, beginning with nothing. It looks at another path only where that decides: at the source
+/// of a rename to this path, and at its directory if that is synced while the name at this path isn't on the disk. So its time mostly grows with the
+/// number of steps alone.
 pub(crate) fn left_at(alloc: Global, steps: &[Step], path: &RelPath) -> Result<Left, PathFault>
     ensures { IfOk result (IsPlace (run empty steps.now path.now)) }
 {
@@ -168,23 +185,31 @@ pub(crate) fn left_at(alloc: Global, steps: &[Step], path: &RelPath) -> Result<L
         } => Ok(made(at, entry, path, left_at(alloc, before, path)?)?),
         Step::SyncFile(at) => Ok(synced(at, path, left_at(alloc, before, path)?)),
         Step::SyncDirectory(at) => {
-            let directory = left_at(alloc, before, at)?;
             let left = left_at(alloc, before, path)?;
+            if is_settled(alloc, at, path, &left)? {
+                return Ok(left);
+            }
+            let directory = left_at(alloc, before, at)?;
             Ok(directory_synced(alloc, at, path, &directory, left)?)
         }
         Step::Rename { from, to } => {
-            let source = left_at(alloc, before, from)?;
             let left = left_at(alloc, before, path)?;
+            if to != path {
+                return Ok(removed(from, path, left)?);
+            }
+            let source = left_at(alloc, before, from)?;
             Ok(renamed(from, to, path, source, left)?)
         }
         Step::RenameDirectory { from, to } => {
-            let root = RelPath::root(alloc);
-            let directory = left_at(alloc, before, &root)?;
             let Some(origin) = before_rename(alloc, from, to, path)? else {
-                let left = always(alloc, Held::nothing());
-                return Ok(directory_synced(alloc, &root, path, &directory, left)?);
+                return Ok(always(alloc, Held::nothing()));
             };
             let left = left_at(alloc, before, &origin)?;
+            let root = RelPath::root(alloc);
+            if is_settled(alloc, &root, path, &left)? {
+                return Ok(left);
+            }
+            let directory = left_at(alloc, before, &root)?;
             Ok(directory_synced(alloc, &root, path, &directory, left)?)
         }
         Step::RemoveFile(at) => Ok(removed(at, path, left_at(alloc, before, path)?)?),

@@ -14,9 +14,14 @@
 //! are [`MemoryFolder`], on which tests run, [`DiskFolder`], a folder of the system, [`StoppedFolder`], which takes so many steps of another one and
 //! refuses all after them, and [`SyncedFolder`], which keeps what of another one isn't on the disk yet.
 //!
+//! A folder also makes a file of [`Pieces`] that come one by one, makes one with the bytes of another, and syncs several files: each has the contract of
+//! the steps that it stands for. A folder of the system then holds no text in memory, and syncs in several threads. [`SyncedFolder::sync_all`] brings
+//! all to the disk that isn't there yet.
+//!
 //! Definitions, in the order of reading: `specs/Entries.antt` and `States.antt` (what a path stands for, and what of it is on the disk), `Steps.antt` (when
 //! a step fits, and what it does), `Crashes.antt` (what a crash may leave, and what that assumes of a disk), `Pasts.antt` (what is known of a folder, and
-//! what a crash since a moment may have left), `Summaries.antt`, `Syncing.antt` (what isn't on the disk yet), `Laws.antt`.
+//! what a crash since a moment may have left), `Summaries.antt`, `Files.antt` (files in pieces, copies, several steps), `Syncing.antt` (what
+//! isn't on the disk yet), `Laws.antt`.
 //!
 //! Promises: a step that is taken fitted, and is the next of those that the folder has taken; one that is refused changed nothing; after one that the
 //! system failed at, nothing more is promised than what a crash may leave (`Takes`). What is shown, summed and listed is what these steps leave (`Shows`,
@@ -29,6 +34,7 @@
 //! The tests are in `test_folder`.
 #![tactic(auto)]
 
+mod at_once;
 mod disk;
 mod entry;
 mod fault;
@@ -56,7 +62,7 @@ pub use laws::{
     what_is_synced_stays_meanwhile,
 };
 pub use memory::MemoryFolder;
-pub use pieces::Pieces;
+pub use pieces::{BytePieces, Pieces};
 pub use step::Step;
 pub use stopped::StoppedFolder;
 pub use summary::Summary;

@@ -5,6 +5,7 @@ ghost use Rattle.svn_types.specs.Names.{Path, path_cmp};
 ghost use Rattle.svn_types.specs.Paths.{path_eq, parent};
 ghost use Rattle.svn_folder.specs.Syncing.{no_marks, AreWithin, AreEnough};
 ghost use Rattle.svn_folder.specs.Marking.{marks_of, without, without_files};
+ghost use Rattle.svn_folder.specs.declared.unsynced.Done.{Done};
 
 use crate::entry::{Entry, Mode};
 use crate::fault::FolderFault;
@@ -150,7 +151,8 @@ impl Unsynced {
         ensures enough { OnOk result ((bytes : List ℕ) (mode : Mode) (t : Option ℕ) → AreEnough (Step.Make path.now (Entry.File bytes mode) t) (marks_of self.old) (marks_of self.new)) }
     {
         self.mark_name(path)?;
-        self.mark_bytes(path)
+        self.mark_bytes(path)?;
+        Ok(())
     }
 
     fn begin_sync(&self, path: &RelPath) -> Result<Done, AllocError>
@@ -222,15 +224,26 @@ impl Unsynced {
         }
     }
 
+    fn unmark_bytes(&mut self, path: &RelPath)
+        ensures { AreWithin (without (Done.Bytes path.now) (marks_of self.old)) (marks_of self.new) }
+    {
+        unmark(&mut self.files, path)
+    }
+
     /// Once it is taken.
     pub(crate) fn finish(&mut self, done: &Done)
         ensures { AreWithin (without done.now (marks_of self.old)) (marks_of self.new) }
     {
         match done {
             Done::Nothing => {}
-            Done::Bytes(path) => unmark(&mut self.files, path),
+            Done::Bytes(path) => self.unmark_bytes(path),
             Done::Names(path) => unmark(&mut self.directories, path),
-            Done::Unknown => self.is_unknown = true,
+            Done::Unknown => {
+                // nothing can be synced by its mark any more
+                self.is_unknown = true;
+                self.files.clear();
+                self.directories.clear();
+            }
         }
     }
 
@@ -240,7 +253,7 @@ impl Unsynced {
     {
         let mut rest = paths;
         'paths: while let Some((path, after)) = rest.split_first() {
-            unmark(&mut self.files, path);
+            self.unmark_bytes(path);
             rest = after;
         }
     }

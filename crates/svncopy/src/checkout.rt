@@ -7,6 +7,7 @@ use crate::progress::Progress;
 use crate::url::address_of;
 use std::alloc::Global;
 use std::fs;
+use std::fs::File;
 use std::io::ErrorKind;
 use std::path::PathBuf;
 use std::rt::{Clock, Files};
@@ -56,7 +57,7 @@ fn make_folder<T: Files>(rt: &T, folder: &str) -> Result<(), Fault> {
 }
 
 /// Makes a working copy, and says of which revision it is.
-pub(crate) fn make<T: Files + Threads + Sync + Input + Print + Eprint + Clock + AllocGlobal>(
+pub(crate) fn make<T: Files<File = File> + Threads + Input + Print + Eprint + Clock + AllocGlobal>(
     rt: &T,
     words: &command_line::Checkout<'_>,
 ) -> Result<(), Fault> {

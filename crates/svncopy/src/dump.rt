@@ -136,8 +136,6 @@ impl<R: Read + Seek + Drop> DumpSource<'_, R> {
 }
 
 impl<R: Read + Seek + Drop> Pieces for DumpSource<'_, R> {
-    ghost given = { λ _. [] };
-
     fn next_piece(&mut self, alloc: Global) -> Option<Text> {
         let len = self.left.min(PIECE) as usize;
         let mut piece = vec![in alloc; 0u8; len].ok()?;

@@ -16,6 +16,7 @@ use crate::fault::Fault;
 use crate::resume::complete;
 use std::env;
 use std::env::Env;
+use std::fs::File;
 use std::process::ExitCode;
 use std::rt::{Clock, Files};
 use std::thread::Threads;
@@ -42,7 +43,7 @@ fn refuse<T: Eprint>(rt: &T, name: &str, fault: &Fault) -> ExitCode {
 }
 
 // Completes each copy in turn; one that is refused doesn't keep the others from it.
-fn complete_all<T: Files + Threads + Sync + Print + Eprint + AllocGlobal>(
+fn complete_all<T: Files<File = File> + Threads + Print + Eprint + AllocGlobal>(
     rt: &T,
     words: &Resume<'_>,
 ) -> ExitCode {
@@ -55,7 +56,7 @@ fn complete_all<T: Files + Threads + Sync + Print + Eprint + AllocGlobal>(
     status
 }
 
-fn answer<T: Files + Threads + Sync + Input + Print + Eprint + Clock + AllocGlobal>(
+fn answer<T: Files<File = File> + Threads + Input + Print + Eprint + Clock + AllocGlobal>(
     rt: &T,
     request: &Request<'_>,
 ) -> ExitCode {
@@ -68,7 +69,7 @@ fn answer<T: Files + Threads + Sync + Input + Print + Eprint + Clock + AllocGlob
     }
 }
 
-fn run<T: Files + Threads + Sync + Input + Print + Eprint + Clock + AllocGlobal>(
+fn run<T: Files<File = File> + Threads + Input + Print + Eprint + Clock + AllocGlobal>(
     rt: &T,
     words: &[String],
 ) -> ExitCode {

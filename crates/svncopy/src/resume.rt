@@ -1,6 +1,7 @@
 //! `svncopy resume`.
 
 use crate::fault::Fault;
+use std::fs::File;
 use std::path::PathBuf;
 use std::rt::Files;
 use std::thread::Threads;
@@ -8,7 +9,7 @@ use svn_disk_update::{Resumed, resume};
 use svn_folder::DiskFolder;
 
 /// Completes a working copy, and says what there was to do.
-pub(crate) fn complete<T: Files + Threads + Sync + Print + AllocGlobal>(
+pub(crate) fn complete<T: Files<File = File> + Threads + Print + AllocGlobal>(
     rt: &T,
     word: &str,
     sync: bool,

@@ -29,8 +29,6 @@ pub(crate) struct Known {
 }
 
 impl Pieces for Known {
-    ghost given = { λ _. [] };
-
     fn next_piece(&mut self, alloc: Global) -> Option<Text> {
         let text = self.begun?;
         if text.is_empty() {

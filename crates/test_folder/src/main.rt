@@ -1,11 +1,14 @@
-//! Folders: each step and each refusal in memory and on disk, a folder that stops after each number of steps, what a crash may leave, and whether all
-//! is on the disk.
+//! Folders: each step and each refusal in memory and on disk, files in pieces, copies and several syncs, a folder that stops after each number of
+//! steps, what a crash may leave, and whether all is on the disk.
 #![tactic(auto)]
 
+mod several;
 mod tables;
 
 use anyhow::{Result, bail};
+use several::{do_all, do_and_finish, make_many, stop_between};
 use std::alloc::Global;
+use std::fs::File;
 use std::path::PathBuf;
 use std::rt::Files;
 use std::thread::Threads;
@@ -14,7 +17,9 @@ use svn_folder::{
     SyncedFolder,
 };
 use svn_types::RelPath;
-use tables::{ACTS, Act, CARELESS, LOST, MOVED, PATHS, REPLACED, SYNCED, step_of};
+use tables::{
+    ACTS, Act, CARELESS, LOST, MOVED, PATHS, REFUSED, RENAMED, REPLACED, SYNCED, UNSYNCED, step_of,
+};
 
 // The folder of the system that is tried, where the program runs.
 const TRIED: &str = "tried_folder";
@@ -81,7 +86,12 @@ fn compare_at<F: Folder, G: Folder>(
     Ok(())
 }
 
-fn compare<F: Folder, G: Folder>(alloc: Global, one: &F, other: &G, words: &str) -> Result<()> {
+pub(crate) fn compare<F: Folder, G: Folder>(
+    alloc: Global,
+    one: &F,
+    other: &G,
+    words: &str,
+) -> Result<()> {
     for path in PATHS {
         compare_at(alloc, one, other, path, words)?;
     }
@@ -106,7 +116,7 @@ fn take_both<R: Print + AllocGlobal, F: Folder, G: Folder>(
 }
 
 // The folder on disk, which is empty.
-fn tried<R: Files + Threads + Sync + AllocGlobal>(rt: &R) -> Result<DiskFolder<'_, R>> {
+fn tried<R: Files<File = File> + Threads + AllocGlobal>(rt: &R) -> Result<DiskFolder<'_, R>> {
     if std::fs::exists(rt, TRIED)? {
         std::fs::remove_dir_all(rt, TRIED)?;
     }
@@ -114,12 +124,14 @@ fn tried<R: Files + Threads + Sync + AllocGlobal>(rt: &R) -> Result<DiskFolder<'
     Ok(DiskFolder::new(rt, PathBuf::from_str(rt.alloc(), TRIED)?))
 }
 
-fn try_both<R: Files + Threads + Sync + Print + AllocGlobal>(rt: &R) -> Result<()> {
+fn try_both<R: Files<File = File> + Threads + Print + AllocGlobal>(rt: &R) -> Result<()> {
     let mut memory = MemoryFolder::new(rt.alloc());
     let mut disk = SyncedFolder::new(rt.alloc(), tried(rt)?);
     for act in ACTS {
         take_both(rt, &mut memory, &mut disk, act)?;
     }
+    let mut disk = SyncedFolder::new(rt.alloc(), tried(rt)?);
+    do_all(rt, &mut disk)?;
     std::fs::remove_dir_all(rt, TRIED)?;
     Ok(())
 }
@@ -163,7 +175,7 @@ fn write_left(alloc: Global, held: Held, words: &mut String) -> Result<()> {
 }
 
 // What a crash may leave at a path, in words.
-fn left_words(alloc: Global, folder: &MemoryFolder, path: &str) -> Result<String> {
+pub(crate) fn left_words(alloc: Global, folder: &MemoryFolder, path: &str) -> Result<String> {
     let left = folder.left_at(&RelPath::parse(alloc, path)?)?;
     let mut words = String::new(alloc);
     for held in left.older {
@@ -230,5 +242,12 @@ fn main(rt: HostRuntime) -> Result<()> {
     crash_in(&rt, &MOVED, ("f/x", "t/x"))?;
     keep_in(&rt, &SYNCED)?;
     keep_in(&rt, &LOST)?;
+    do_and_finish(&rt, &UNSYNCED)?;
+    do_and_finish(&rt, &REFUSED)?;
+    do_and_finish(&rt, &RENAMED)?;
+    for limit in 2..=4 {
+        stop_between(&rt, limit)?;
+    }
+    make_many(&rt)?;
     Ok(())
 }

@@ -1,6 +1,7 @@
 //! The steps that are tried.
 
 use std::alloc::Global;
+use std::fmt;
 use svn_folder::{Entry, FolderFault, Mode, Step};
 use svn_types::{Name, RelPath, Text};
 
@@ -125,6 +126,67 @@ pub(crate) const LOST: [Act; 5] = [
     Act::SyncDirectory("f"),
     Act::SyncDirectory(""),
 ];
+
+/// What takes no step, one, or several.
+#[derive(Clone, Copy)]
+pub(crate) enum Deed {
+    Step(Act),
+    Pieces(&'static str, &'static str),
+    Copy(&'static str, &'static str),
+    Sync(&'static [&'static str]),
+}
+
+/// In words, with its paths.
+impl fmt::Display for Deed {
+    fn fmt<W: fmt::Write>(&self, f: &mut fmt::Formatter<W>) -> fmt::Result {
+        match self {
+            Deed::Step(_) => f.write_str("a step"),
+            Deed::Pieces(path, _) => write!(f, "write {path}"),
+            Deed::Copy(from, to) => write!(f, "copy {from} to {to}"),
+            Deed::Sync(paths) => write!(f, "sync {} files", paths.len()),
+        }
+    }
+}
+
+/// Files in pieces, copies and syncs, done and refused in each way.
+pub(crate) const DEEDS: [Deed; 14] = [
+    Deed::Step(Act::Directory("a")),
+    Deed::Pieces("a/f", "a text in pieces"),
+    Deed::Pieces("a/f", "again"),
+    Deed::Pieces("new", ""),
+    Deed::Step(Act::Link("l", "a/f")),
+    Deed::Copy("a/f", "b"),
+    Deed::Copy("new", "a/l"),
+    Deed::Copy("a/f", "b"),
+    Deed::Copy("a", "d"),
+    Deed::Copy("l", "d"),
+    Deed::Sync(&[]),
+    Deed::Sync(&["a/f", "b", "a/l", "new"]),
+    Deed::Sync(&["a/f", "l", "new"]),
+    Deed::Step(Act::File("d", "")),
+];
+
+/// Files and directories that aren't on the disk.
+pub(crate) const UNSYNCED: [Deed; 6] = [
+    Deed::Step(Act::Directory("a")),
+    Deed::Step(Act::Directory("a/b")),
+    Deed::Pieces("a/b/f", "a text"),
+    Deed::Copy("a/b/f", "a/g"),
+    Deed::Step(Act::Rename("a/g", "g")),
+    Deed::Step(Act::Link("a/b/l", "f")),
+];
+
+/// A copy that is refused, so that the file that it would have made isn't there.
+pub(crate) const REFUSED: [Deed; 2] = [Deed::Pieces("f", "text"), Deed::Copy("g", "h")];
+
+/// A directory is renamed before all is on the disk.
+pub(crate) const RENAMED: [Deed; 2] = [
+    Deed::Step(Act::Directory("a")),
+    Deed::Step(Act::RenameDirectory("a", "b")),
+];
+
+/// So many files are made.
+pub(crate) const MANY: u64 = 40;
 
 fn make(path: RelPath, entry: Entry) -> Step {
     Step::Make {
