@@ -177,8 +177,8 @@ impl Progress {
     }
 }
 
-// The last change of a node, if it is known.
-fn last_change<'a, S: Source>(
+/// The last change of a node, if it is known.
+pub(crate) fn last_change<'a, S: Source>(
     alloc: Global,
     source: &'a S,
     node: &BaseNode,

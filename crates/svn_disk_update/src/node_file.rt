@@ -6,11 +6,24 @@ use svn_model::BaseNode;
 use svn_types::{Props, Text};
 
 /// What the text of a symbolic link begins with.
-const LINK: &[u8] = b"link ";
+pub(crate) const LINK: &[u8] = b"link ";
+
+/// The properties whose values say how a text is written to disk.
+const TRANSLATIONS: [&str; 2] = ["svn:eol-style", "svn:keywords"];
+
+// The value of the property of that name.
+fn value<'a>(props: &'a Props, name: &str) -> Option<&'a Text> {
+    for (found, value) in props.iter() {
+        if found.as_str() == name {
+            return Some(value);
+        }
+    }
+    None
+}
 
 // Whether a node has the property of that name.
 fn has(props: &Props, name: &str) -> bool {
-    props.iter().any(|(found, _)| found.as_str() == name)
+    value(props, name).is_some()
 }
 
 /// How a file may be used: `svn:executable` makes it a program, and `svn:needs-lock` keeps everybody from writing to it.
@@ -40,4 +53,22 @@ pub(crate) fn file_of(node: &BaseNode) -> Option<(&Text, &Props)> {
         BaseNode::File { text, props, .. } => Some((text, props)),
         BaseNode::Dir { .. } | BaseNode::NotPresent => None,
     }
+}
+
+// Whether both have the same value of each property that says how a text is written to disk.
+fn is_written_alike(props: &Props, others: &Props) -> bool {
+    TRANSLATIONS
+        .iter()
+        .all(|name| value(props, name) == value(others, name))
+}
+
+/// Whether two nodes of one kind are the same on disk: two directories, or two files with the same text, used and written in the same way.
+pub(crate) fn is_same_on_disk(node: &BaseNode, other: &BaseNode) -> bool {
+    let (Some((text, props)), Some((other_text, others))) = (file_of(node), file_of(other)) else {
+        return node.is_directory() && other.is_directory();
+    };
+    text == other_text
+        && mode_of(props) == mode_of(others)
+        && is_special(props) == is_special(others)
+        && is_written_alike(props, others)
 }

@@ -1,5 +1,6 @@
 //! `svncopy checkout`.
 
+use crate::clock::now;
 use crate::command_line;
 use crate::dump::{DumpSource, History, open};
 use crate::fault::Fault;
@@ -11,22 +12,10 @@ use std::io::ErrorKind;
 use std::path::PathBuf;
 use std::rt::{Clock, Files};
 use std::thread::Threads;
-use std::time::{SystemTime, UNIX_EPOCH};
 use svn_disk_update::{Checkout, check_out, inherited_props, refuse_reserved};
 use svn_folder::{DiskFolder, SyncedFolder};
 use svn_types::{RelPath, Rev};
 use svn_wc::{WcFault, WorkingCopy};
-
-// The time now, in microseconds since 1970.
-fn now<T: Clock>(rt: &T) -> Result<u64, Fault> {
-    match SystemTime::now(rt) {
-        Ok(time) => Ok(match time.duration_since(UNIX_EPOCH) {
-            Ok(since) => u64::try_from(since.as_micros()).unwrap_or(0),
-            Err(_) => 0,
-        }),
-        Err(error) => Err(Fault::Clock(error)),
-    }
-}
 
 // The copy of a path in a revision.
 fn copy_of(
