@@ -97,13 +97,21 @@ impl Looking<'_> {
         }
     }
 
+    // Whether a file or a link has a text that the copy keeps.
+    fn is_own_leaf<F: Folder>(&self, folder: &F, path: &RelPath) -> Result<bool, DiskFault> {
+        match self.known.is_own_leaf(self.alloc, folder, path) {
+            Err(DiskFault::Changed(_)) => Ok(false),
+            other => other,
+        }
+    }
+
     // Refuses the path of some work where something else is.
     fn refuse_other<F: Folder>(&self, folder: &F, work: &Work) -> Result<(), DiskFault> {
         let takes = self.takes(work);
         let is_fine = match find(self.alloc, folder, work.path())? {
             Found::Nothing => true,
             Found::Directory => takes.directory,
-            Found::Leaf(text) => takes.leaf && self.known.has(text.as_slice()),
+            Found::Leaf(_) => takes.leaf && self.is_own_leaf(folder, work.path())?,
         };
         if is_fine {
             Ok(())

@@ -1,7 +1,7 @@
 //! The texts that a copy keeps, by which what is on disk is known to be nobody's edit.
 
 use crate::fault::DiskFault;
-use crate::on_disk::{Found, find};
+use crate::on_disk::{Found, find, readings};
 use std::alloc::Global;
 use std::collections::BTreeSet;
 use svn_digits::STAND_IN_LEN;
@@ -47,8 +47,26 @@ impl KnownTexts {
     ) -> Result<bool, DiskFault> {
         match find(alloc, folder, path)? {
             Found::Nothing | Found::Directory => Ok(false),
-            Found::Leaf(text) if self.has(text.as_slice()) => Ok(true),
-            Found::Leaf(_) => Err(DiskFault::Changed(path.clone()?)),
+            Found::Leaf(text) => {
+                if self.has(text.as_slice()) || self.has_reading(alloc, folder, path)? {
+                    Ok(true)
+                } else {
+                    Err(DiskFault::Changed(path.clone()?))
+                }
+            }
+        }
+    }
+
+    // Whether a file on disk is one of them, written in another way.
+    fn has_reading<F: Folder>(
+        &self,
+        alloc: Global,
+        folder: &F,
+        path: &RelPath,
+    ) -> Result<bool, DiskFault> {
+        match readings(alloc, folder, path)? {
+            Some(texts) => Ok(texts.iter().any(|text| self.has(text.as_slice()))),
+            None => Ok(false),
         }
     }
 }

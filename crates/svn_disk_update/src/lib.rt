@@ -53,6 +53,7 @@ mod local;
 mod mend;
 mod mended;
 mod node_file;
+mod normal;
 mod on_disk;
 mod plan;
 mod prepared;

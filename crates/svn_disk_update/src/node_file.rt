@@ -1,5 +1,6 @@
 //! What a file of a working copy is on disk, by its text and its properties (`svn_props.h`).
 
+use crate::normal::{Keywords, with_line_ends, without_values};
 use std::alloc::{AllocError, Global};
 use svn_folder::Mode;
 use svn_model::BaseNode;
@@ -8,8 +9,12 @@ use svn_types::{Props, Text};
 /// What the text of a symbolic link begins with.
 pub(crate) const LINK: &[u8] = b"link ";
 
+const LINE_ENDS: &str = "svn:eol-style";
+
+const KEYWORDS: &str = "svn:keywords";
+
 /// The properties whose values say how a text is written to disk.
-const TRANSLATIONS: [&str; 2] = ["svn:eol-style", "svn:keywords"];
+const TRANSLATIONS: [&str; 2] = [LINE_ENDS, KEYWORDS];
 
 // The value of the property of that name.
 fn value<'a>(props: &'a Props, name: &str) -> Option<&'a Text> {
@@ -52,6 +57,33 @@ pub(crate) fn file_of(node: &BaseNode) -> Option<(&Text, &Props)> {
     match node {
         BaseNode::File { text, props, .. } => Some((text, props)),
         BaseNode::Dir { .. } | BaseNode::NotPresent => None,
+    }
+}
+
+/// Whether a file may be written to disk in another way than its text is in the repository.
+pub(crate) fn is_translated_on_disk(props: &Props) -> bool {
+    TRANSLATIONS.iter().any(|name| has(props, name))
+}
+
+// The line ends that a text has in the repository; none where they stay as they are.
+fn line_end_of(props: &Props) -> Option<&'static [u8]> {
+    match value(props, LINE_ENDS)?.as_slice().trim_ascii() {
+        b"native" | b"LF" => Some(b"\n"),
+        b"CRLF" => Some(b"\r\n"),
+        b"CR" => Some(b"\r"),
+        _ => None,
+    }
+}
+
+/// The text of the repository that bytes on disk stand for, by a file's properties.
+pub(crate) fn text_of(alloc: Global, bytes: &[u8], props: &Props) -> Result<Vec<u8>, AllocError> {
+    let plain = match value(props, KEYWORDS) {
+        Some(words) => without_values(alloc, bytes, Keywords::Named(words.as_slice()))?,
+        None => Vec::from_slice(alloc, bytes)?,
+    };
+    match line_end_of(props) {
+        Some(end) => with_line_ends(alloc, &plain, end),
+        None => Ok(plain),
     }
 }
 

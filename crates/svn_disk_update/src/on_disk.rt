@@ -1,12 +1,13 @@
 //! What is on disk, compared with a copy.
 
 use crate::fault::DiskFault;
-use crate::node_file::{LINK, file_of};
+use crate::node_file::{LINK, file_of, is_translated_on_disk, text_of};
+use crate::normal::{Keywords, with_line_ends, without_values};
 use std::alloc::Global;
 use svn_digits::{stand_in, stand_in_of};
-use svn_folder::{Folder, Summary};
+use svn_folder::{Entry, Folder, Summary};
 use svn_model::BaseNode;
-use svn_types::{RelPath, Text};
+use svn_types::{Props, RelPath, Text};
 
 /// What is at a path on disk.
 #[derive(Debug, Drop)]
@@ -42,16 +43,62 @@ pub(crate) fn find<F: Folder>(
     })
 }
 
-/// Refuses what is at the path of a file of a copy, if it isn't that file's text: an edit. Nothing is in nobody's way. Changed, Folder, Memory.
+// Whether a file on disk is another way to write a text, by its properties.
+fn is_translated<F: Folder>(
+    alloc: Global,
+    folder: &F,
+    path: &RelPath,
+    file: (&Text, &Props),
+) -> Result<bool, DiskFault> {
+    let (name, props) = file;
+    if !is_translated_on_disk(props) {
+        return Ok(false);
+    }
+    match folder.look(alloc, path)? {
+        Some(Entry::File(bytes, _)) => {
+            let text = text_of(alloc, bytes.as_slice(), props)?;
+            Ok(stand_in(alloc, &text)? == *name)
+        }
+        _ => Ok(false),
+    }
+}
+
+/// Refuses what is at the path of a file of a copy, if it isn't that file's text, as it is or as its properties have it written: an edit. Changed, Folder,
+/// Memory.
 pub(crate) fn refuse_edit<F: Folder>(
     alloc: Global,
     folder: &F,
     path: &RelPath,
     node: &BaseNode,
 ) -> Result<(), DiskFault> {
-    match (find(alloc, folder, path)?, file_of(node)) {
-        (Found::Nothing, _) => Ok(()),
-        (Found::Leaf(found), Some((text, _))) if found == *text => Ok(()),
-        _ => Err(DiskFault::Changed(path.clone()?)),
+    let is_own = match (find(alloc, folder, path)?, file_of(node)) {
+        (Found::Nothing, _) => true,
+        (Found::Leaf(found), Some((text, props))) => {
+            found == *text || is_translated(alloc, folder, path, (text, props))?
+        }
+        _ => false,
+    };
+    if is_own {
+        Ok(())
+    } else {
+        Err(DiskFault::Changed(path.clone()?))
     }
+}
+
+/// The texts that a file on disk may be in the repository, whatever its properties are: without values of keywords, and with each kind of line ends. None of
+/// what is no file.
+pub(crate) fn readings<F: Folder>(
+    alloc: Global,
+    folder: &F,
+    path: &RelPath,
+) -> Result<Option<[Text; 3]>, DiskFault> {
+    let Some(Entry::File(bytes, _)) = folder.look(alloc, path)? else {
+        return Ok(None);
+    };
+    let plain = without_values(alloc, bytes.as_slice(), Keywords::All)?;
+    Ok(Some([
+        stand_in(alloc, &plain)?,
+        stand_in(alloc, &with_line_ends(alloc, &plain, b"\n")?)?,
+        stand_in(alloc, &with_line_ends(alloc, &plain, b"\r\n")?)?,
+    ]))
 }
