@@ -179,19 +179,19 @@ cuts() {
     for call in rename unlink rmdir mkdir symlink; do
         count=$(grep -c " $call(" trace)
         for n in $(seq "$count"); do
-            rm -rf ours again
+            rm -rf ours cleaned
             cp -a copy ours
             (strace -f -e trace=$call -e inject=$call:signal=SIGKILL:when="$n" -o /dev/null "$SVNCOPY" mend dump ours; true) >/dev/null 2>&1
-            cp -a ours again
+            cp -a ours cleaned
             stops=$((stops + 1))
             [ "$(sqlite3 ours/.svn/wc.db 'select count(*) from wc_lock')" = 0 ] || left=$((left + 1))
             "$SVNCOPY" resume ours >line 2>&1 || wrongly "$1, $call $n: RESUME: $(cat line)"
             "$SVNCOPY" mend dump ours >line 2>&1 || wrongly "$1, $call $n: MEND: $(cat line)"
             got_copy ours >got
             same "$1, cut off at $call $n, completed by resume" whole got
-            svn cleanup again 2>errors || { wrongly "$1, $call $n: SVN CLEANUP:"; sed 's/^/    /' errors; }
-            "$SVNCOPY" mend dump again >line 2>&1 || wrongly "$1, $call $n: MEND AFTER CLEANUP: $(cat line)"
-            got_copy again >got
+            svn cleanup cleaned 2>errors || { wrongly "$1, $call $n: SVN CLEANUP:"; sed 's/^/    /' errors; }
+            "$SVNCOPY" mend dump cleaned >line 2>&1 || wrongly "$1, $call $n: MEND AFTER CLEANUP: $(cat line)"
+            got_copy cleaned >got
             same "$1, cut off at $call $n, completed by svn cleanup" whole got
         done
     done
