@@ -43,15 +43,21 @@ lose() {
 # again: commits what is in the work copy in place of what was lost, and dumps it
 again() { svn -q commit -m again work && svnadmin dump -q repo >dump; }
 
+# rows COPY: its lines without the last changes, which rows that stay as they are keep
+rows() { "$here/rows.py" "$1" | sed -E '/^node /s/(, [^,]*){3}\]$/]/'; }
+
 # wanted_copy [REV]: the lines of a fresh checkout
 wanted_copy() {
     rm -rf fresh
-    svn -q checkout "$url" -r "${1:-HEAD}" fresh && "$here/rows.py" fresh
+    svn -q checkout "$url" -r "${1:-HEAD}" fresh && rows fresh
 }
+
+# changes COPY: the last changes of the nodes that were mended
+changes() { (cd "$1" && sed -n 's/.*: would be mended: \(.*\): .*/\1/p' ../planned | while read -r path; do [ ! -e "$path" ] || svn info "$path" | grep -E '^(Path|Last)'; done); }
 
 # got_copy COPY: the lines of a copy, without texts that no node has
 got_copy() {
-    rm -rf vacuumed && cp -a "$1" vacuumed && svn cleanup --vacuum-pristines vacuumed && "$here/rows.py" vacuumed
+    rm -rf vacuumed && cp -a "$1" vacuumed && svn cleanup --vacuum-pristines vacuumed && rows vacuumed
 }
 
 # audited COPY LINE: what svnaudit says
@@ -65,11 +71,15 @@ audited() {
 # mends WHAT COPY: it is mended, and then a fresh checkout's
 mends() {
     audited "$2" untrue
+    "$SVNCOPY" mend dump "$2" --dry-run >planned
     "$SVNCOPY" mend dump "$2" >line 2>&1 || wrongly "$1: REFUSED: $(cat line)"
     grep -qE "^$2: mended: [0-9]+ paths?\$" line || wrongly "$1: ANOTHER LINE: $(cat line)"
     wanted_copy >wanted
     got_copy "$2" >got
     same "$1" wanted got
+    changes fresh >wanted
+    changes "$2" >got
+    same "$1: last changes" wanted got
     audited "$2" true
     echo "$2: true: nothing to mend" >wanted
     "$SVNCOPY" mend dump "$2" >got 2>&1

@@ -9,7 +9,7 @@ use crate::known::KnownTexts;
 use crate::layout::Admin;
 use crate::node_file::file_of;
 use crate::plan::Plan;
-use crate::prepared::{Prepared, prepare};
+use crate::prepared::{Prepared, prepare_unless_locked};
 use crate::refusals::refuse;
 use crate::rows::{RowMaker, Sizes};
 use crate::settle::settle;
@@ -85,7 +85,9 @@ impl Bringing<'_> {
         }
         let time = Some(self.wanted.time);
         let what = Prepared { name, props, time };
-        let is_file = prepare(self.alloc, folder, self.admin, number, &what)?;
+        let is_locked = self.existing.has_lock(node);
+        let is_file =
+            prepare_unless_locked(self.alloc, folder, self.admin, number, (&what, is_locked))?;
         let size = if is_file { Some(size) } else { None };
         keeping.sizes.insert(path.clone()?, size)?;
         Ok(())

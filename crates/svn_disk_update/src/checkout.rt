@@ -335,6 +335,17 @@ fn name_folder<F: Folder>(
     Ok(())
 }
 
+/// Refuses what [`check_out`] refuses of a copy and a folder before it changes anything: Reserved, ACopy, CutOff, InTheWay, Folder, Memory. Nothing may be
+/// where the folder would be.
+pub fn refuse_check_out<F: Folder>(
+    alloc: Global,
+    folder: &F,
+    copy: &WorkingCopy,
+) -> Result<(), DiskFault> {
+    refuse_reserved(copy)?;
+    refuse_taken(alloc, folder, copy)
+}
+
 /// Makes a working copy in a folder that is there.
 ///
 /// Refused before anything is changed: Reserved at the first node named `.svn`, ACopy where the folder is a working copy's, CutOff where a checkout was

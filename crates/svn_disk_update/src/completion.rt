@@ -1,5 +1,6 @@
 //! What was cut off, completed.
 
+use crate::above::above_of;
 use crate::clearing::clear;
 use crate::doing::{Databases, Doing};
 use crate::existing::Existing;
@@ -8,7 +9,7 @@ use crate::known::KnownTexts;
 use crate::layout::Admin;
 use crate::node_file::file_of;
 use crate::on_disk::{Found, find};
-use crate::prepared::{Prepared, prepare};
+use crate::prepared::{Prepared, prepare_unless_locked};
 use crate::steps::remove_if_any;
 use crate::task::Task;
 use crate::texts::has_text;
@@ -64,6 +65,8 @@ struct Looking<'a> {
     known: &'a KnownTexts,
     // The paths at which something goes.
     gone: &'a BTreeSet<RelPath>,
+    // Those of them at which a file comes.
+    files: &'a BTreeSet<RelPath>,
 }
 
 // What may be at a path.
@@ -120,6 +123,36 @@ impl Looking<'_> {
         }
     }
 
+    // Whether a file comes in the place of a directory, or of one above it.
+    fn becomes_file(&self, path: &RelPath) -> Result<bool, DiskFault> {
+        if self.files.contains(path) {
+            return Ok(true);
+        }
+        for above in above_of(self.alloc, path)? {
+            if self.files.contains(&above) {
+                return Ok(true);
+            }
+        }
+        Ok(false)
+    }
+
+    // Refuses what is in a directory and doesn't go.
+    fn refuse_others_in<F: Folder>(&self, folder: &F, path: &RelPath) -> Result<(), DiskFault> {
+        if !self.becomes_file(path)? {
+            return Ok(());
+        }
+        let Found::Directory = find(self.alloc, folder, path)? else {
+            return Ok(());
+        };
+        for name in folder.list(self.alloc, path)? {
+            let below = path.join(self.alloc, &name)?;
+            if !self.gone.contains(&below) {
+                return Err(DiskFault::InTheWay(below));
+            }
+        }
+        Ok(())
+    }
+
     // Refuses what isn't the copy's, of all work.
     fn refuse_all<F: Folder>(
         &self,
@@ -132,6 +165,9 @@ impl Looking<'_> {
                 refuse_no_text(self.alloc, folder, admin, self.existing, path)?;
             }
             self.refuse_other(folder, item)?;
+            if let Work::RemoveDirectory(path) = item {
+                self.refuse_others_in(folder, path)?;
+            }
         }
         Ok(())
     }
@@ -149,10 +185,15 @@ fn prepare_again<F: Folder>(
     let Some((name, props)) = file_at(existing, path) else {
         return Err(DiskFault::Foreign);
     };
+    let is_locked = match existing.copy.get(path) {
+        Some(node) => existing.has_lock(node),
+        None => false,
+    };
     let new = admin.new_file(alloc, number)?;
     remove_if_any(alloc, folder, &new)?;
     let time = existing.time_of(path);
-    let is_file = prepare(alloc, folder, admin, number, &Prepared { name, props, time })?;
+    let what = Prepared { name, props, time };
+    let is_file = prepare_unless_locked(alloc, folder, admin, number, (&what, is_locked))?;
     Ok(if is_file { Some(new) } else { None })
 }
 
@@ -204,6 +245,7 @@ fn complete<F: Folder>(
         existing: &existing,
         known: &known,
         gone: &task.gone(alloc)?,
+        files: &task.replacing_files(alloc)?,
     };
     looking.refuse_all(folder, &admin, &task.work)?;
     prepare_all_again(alloc, folder, &admin, &existing, task.makings(), sync)?;

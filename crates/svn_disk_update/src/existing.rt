@@ -44,6 +44,8 @@ pub(crate) struct Existing {
     pub(crate) copy: WorkingCopy,
     // The places of their rows among those of NODES.
     places: BTreeMap<RelPath, usize>,
+    // The paths that the client has locked in the repository.
+    locked: BTreeSet<RelPath>,
 }
 
 /// Whether a row of NODES is one of the base tree: no local change, and no file that `svn:externals` put there.
@@ -73,6 +75,17 @@ fn places_of(alloc: Global, rows: &[TableRow]) -> Result<BTreeMap<RelPath, usize
         }
     }
     Ok(places)
+}
+
+// The paths of rows of LOCK.
+fn locked_in(alloc: Global, rows: &[TableRow]) -> Result<BTreeSet<RelPath>, DiskFault> {
+    let mut locked = BTreeSet::new(alloc);
+    for row in rows {
+        if let Some(path) = path_of(alloc, row)? {
+            locked.insert(path)?;
+        }
+    }
+    Ok(locked)
 }
 
 // The number of the repository of the copy's root.
@@ -123,6 +136,7 @@ impl Existing {
             copy: WorkingCopy::from_nodes(alloc, tree.nodes.clone()?)?,
             nodes: tree.nodes,
             places: places_of(alloc, &tables.nodes)?,
+            locked: locked_in(alloc, &tables.lock)?,
             tables,
             database,
         })
@@ -183,14 +197,11 @@ impl Existing {
         Some((number_at(row, SIZE)?, number_at(row, TIME)?))
     }
 
-    /// The paths in the repository that a client has locked there.
-    pub(crate) fn locked(&self, alloc: Global) -> Result<BTreeSet<RelPath>, DiskFault> {
-        let mut locked = BTreeSet::new(alloc);
-        for row in &self.tables.lock {
-            if let Some(path) = path_of(alloc, row)? {
-                locked.insert(path)?;
-            }
+    /// Whether the client has locked a node in the repository.
+    pub(crate) fn has_lock(&self, node: &BaseNode) -> bool {
+        match node.repos_path() {
+            Some(repos_path) => self.locked.contains(repos_path),
+            None => false,
         }
-        Ok(locked)
     }
 }

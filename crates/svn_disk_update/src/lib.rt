@@ -68,7 +68,7 @@ mod temporary;
 mod texts;
 mod wanted;
 
-pub use checkout::{Checkout, check_out, refuse_reserved};
+pub use checkout::{Checkout, check_out, refuse_check_out, refuse_reserved};
 pub use completion::{Resumed, resume};
 pub use fault::{DiskFault, OtherRepository};
 pub use inherited::inherited_props;

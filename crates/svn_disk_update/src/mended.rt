@@ -98,7 +98,8 @@ impl Mending<'_> {
             let Some((place, id)) = left.pop() else {
                 break 'nodes;
             };
-            left.append(&mut self.put_node(&place, id)?)?;
+            let mut below = self.put_node(&place, id)?;
+            left.append(&mut below)?;
         }
         Ok(())
     }

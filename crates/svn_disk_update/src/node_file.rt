@@ -13,6 +13,8 @@ const LINE_ENDS: &str = "svn:eol-style";
 
 const KEYWORDS: &str = "svn:keywords";
 
+const NEEDS_LOCK: &str = "svn:needs-lock";
+
 /// The properties whose values say how a text is written to disk.
 const TRANSLATIONS: [&str; 2] = [LINE_ENDS, KEYWORDS];
 
@@ -35,8 +37,19 @@ fn has(props: &Props, name: &str) -> bool {
 pub(crate) fn mode_of(props: &Props) -> Mode {
     Mode {
         executable: has(props, "svn:executable"),
-        read_only: has(props, "svn:needs-lock"),
+        read_only: has(props, NEEDS_LOCK),
     }
+}
+
+/// The properties of a file that the client has locked in the repository, as far as they say how it may be used: anybody may write to it.
+pub(crate) fn props_if_locked(alloc: Global, props: &Props) -> Result<Props, AllocError> {
+    let mut others = Props::new(alloc);
+    for (name, value) in props.iter() {
+        if name.as_str() != NEEDS_LOCK {
+            others.insert(name.clone()?, value.clone()?)?;
+        }
+    }
+    Ok(others)
 }
 
 /// Whether a file is a symbolic link on disk, if its text says of which: the property `svn:special`.

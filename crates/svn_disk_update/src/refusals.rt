@@ -12,7 +12,7 @@ use svn_model::BaseNode;
 use svn_types::RelPath;
 
 // A folder beside a plan.
-#[derive(Clone, Copy)]
+#[derive(Drop)]
 struct Beside<'a, F> {
     alloc: Global,
     folder: &'a F,

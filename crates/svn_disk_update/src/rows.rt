@@ -43,7 +43,7 @@ impl NodeRows {
 }
 
 /// What rows are made of.
-#[derive(Clone, Copy)]
+#[derive(Drop)]
 pub(crate) struct RowMaker<'a, S> {
     pub(crate) alloc: Global,
     pub(crate) source: &'a S,

@@ -28,7 +28,8 @@ impl Task {
     pub(crate) fn of_plan(alloc: Global, plan: &Plan<'_>) -> Result<Task, DiskFault> {
         let mut work = plan.removals(alloc)?;
         let removals = work.len();
-        work.append(&mut plan.makings(alloc)?)?;
+        let mut makings = plan.makings(alloc)?;
+        work.append(&mut makings)?;
         Ok(Task { work, removals })
     }
 
@@ -68,6 +69,20 @@ impl Task {
             gone.insert(item.path().clone()?)?;
         }
         Ok(gone)
+    }
+
+    /// Those of them at which a file comes.
+    pub(crate) fn replacing_files(&self, alloc: Global) -> Result<BTreeSet<RelPath>, DiskFault> {
+        let gone = self.gone(alloc)?;
+        let mut files = BTreeSet::new(alloc);
+        for item in self.makings() {
+            if let Work::InstallFile(path) = item {
+                if gone.contains(path) {
+                    files.insert(path.clone()?)?;
+                }
+            }
+        }
+        Ok(files)
     }
 
     /// Whether something comes where something else goes. Once such work is half done, not all of it can be done again.

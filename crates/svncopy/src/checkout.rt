@@ -12,7 +12,8 @@ use std::io::ErrorKind;
 use std::path::PathBuf;
 use std::rt::{Clock, Files};
 use std::thread::Threads;
-use svn_disk_update::{Checkout, check_out, inherited_props, refuse_reserved};
+use svn_disk_update::{Checkout, check_out, inherited_props, refuse_check_out, refuse_reserved};
+use svn_editor::PathWord;
 use svn_folder::{DiskFolder, SyncedFolder};
 use svn_types::{RelPath, Rev};
 use svn_wc::{WcFault, WorkingCopy};
@@ -44,7 +45,24 @@ fn make_folder<T: Files>(rt: &T, folder: &str) -> Result<(), Fault> {
     }
 }
 
-/// Makes a working copy, and says of which revision it is.
+// Says what would be made, or refuses it.
+fn tell<T: Files + Threads + Sync + Print + AllocGlobal>(
+    rt: &T,
+    word: &str,
+    copy: &WorkingCopy,
+) -> Result<(), Fault> {
+    let alloc = rt.alloc();
+    let folder = DiskFolder::new(rt, PathBuf::from_str(alloc, word)?);
+    refuse_check_out(alloc, &folder, copy)?;
+    for (path, _) in copy.iter() {
+        if println!(rt; "{word}: would be made: {}", PathWord(path)).is_err() {
+            return Err(Fault::Write);
+        }
+    }
+    Ok(())
+}
+
+/// Makes a working copy, and says of which revision it is; or says what would be made.
 pub(crate) fn make<T: Files + Threads + Sync + Input + Print + Eprint + Clock + AllocGlobal>(
     rt: &T,
     words: &command_line::Checkout<'_>,
@@ -57,6 +75,9 @@ pub(crate) fn make<T: Files + Threads + Sync + Input + Print + Eprint + Clock + 
     let rev = address.rev.unwrap_or(history.repo.latest());
     let copy = copy_of(alloc, &history, &address.path, rev)?;
     refuse_reserved(&copy)?;
+    if words.dry_run {
+        return tell(rt, words.folder, &copy);
+    }
     let inherited = inherited_props(alloc, &history.repo, rev, &address.path)?;
     make_folder(rt, words.folder)?;
     let folder = DiskFolder::new(rt, PathBuf::from_str(alloc, words.folder)?);

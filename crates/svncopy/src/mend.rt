@@ -55,10 +55,10 @@ fn print_changes<T: Print>(rt: &T, word: &str, changes: &[PathChange]) -> Result
 }
 
 /// What all copies are mended with.
-#[derive(Clone, Copy)]
+#[derive(Drop)]
 struct Mending<'a, T> {
     rt: &'a T,
-    what: Mend<'a>,
+    what: &'a Mend<'a>,
     dry_run: bool,
 }
 
@@ -67,7 +67,7 @@ impl<T: Files + Threads + Sync + Print + AllocGlobal> Mending<'_, T> {
     fn tell(&self, word: &str) -> Result<(), Fault> {
         let alloc = self.rt.alloc();
         let folder = DiskFolder::new(self.rt, PathBuf::from_str(alloc, word)?);
-        let changes = mend_changes(alloc, &folder, &self.what)?;
+        let changes = mend_changes(alloc, &folder, self.what)?;
         if changes.is_empty() {
             return print_true(self.rt, word);
         }
@@ -82,7 +82,7 @@ impl<T: Files + Threads + Sync + Print + AllocGlobal> Mending<'_, T> {
         let alloc = self.rt.alloc();
         let folder = DiskFolder::new(self.rt, PathBuf::from_str(alloc, word)?);
         let mut folder = SyncedFolder::new(alloc, folder);
-        let changes = mend(alloc, &mut folder, source, &self.what)?;
+        let changes = mend(alloc, &mut folder, source, self.what)?;
         if changes.is_empty() {
             return print_true(self.rt, word);
         }
@@ -115,14 +115,15 @@ pub(crate) fn mend_all<T: Files + Threads + Sync + Input + Print + Eprint + Cloc
     let dump = open(rt, words.dump, beside)?;
     let mut progress = Progress::begin(rt, words.progress);
     let (history, texts) = dump.load(alloc, &mut progress)?;
+    let what = Mend {
+        repo: &history.repo,
+        uuid: history.uuid.as_slice(),
+        time: now(rt)?,
+        sync: !words.no_sync,
+    };
     let mending = Mending {
         rt,
-        what: Mend {
-            repo: &history.repo,
-            uuid: history.uuid.as_slice(),
-            time: now(rt)?,
-            sync: !words.no_sync,
-        },
+        what: &what,
         dry_run: words.dry_run,
     };
     let mut source = DumpSource::new(&history, texts);
