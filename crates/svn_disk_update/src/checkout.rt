@@ -177,8 +177,8 @@ impl Progress {
     }
 }
 
-// The last change of a node, if it is known.
-fn last_change<'a, S: Source>(
+/// The last change of a node, if it is known.
+pub(crate) fn last_change<'a, S: Source>(
     alloc: Global,
     source: &'a S,
     node: &BaseNode,
@@ -333,6 +333,17 @@ fn name_folder<F: Folder>(
 {
     folder.take(Step::RenameDirectory { from, to })?;
     Ok(())
+}
+
+/// Refuses what [`check_out`] refuses of a copy and a folder before it changes anything: Reserved, ACopy, CutOff, InTheWay, Folder, Memory. Nothing may be
+/// where the folder would be.
+pub fn refuse_check_out<F: Folder>(
+    alloc: Global,
+    folder: &F,
+    copy: &WorkingCopy,
+) -> Result<(), DiskFault> {
+    refuse_reserved(copy)?;
+    refuse_taken(alloc, folder, copy)
 }
 
 /// Makes a working copy in a folder that is there.

@@ -1,16 +1,21 @@
 //! What was cut off, completed.
 
-use crate::carry::{carry_out, replace_database};
+use crate::above::above_of;
 use crate::clearing::clear;
+use crate::doing::{Databases, Doing};
 use crate::existing::Existing;
 use crate::fault::DiskFault;
+use crate::known::KnownTexts;
 use crate::layout::Admin;
 use crate::node_file::file_of;
-use crate::prepared::{Prepared, prepare, target_of};
+use crate::on_disk::{Found, find};
+use crate::prepared::{Prepared, prepare_unless_locked};
 use crate::steps::remove_if_any;
-use crate::texts::{has_text, sum_of};
+use crate::task::Task;
+use crate::texts::has_text;
 use std::alloc::Global;
-use svn_folder::{Folder, Summary};
+use std::collections::BTreeSet;
+use svn_folder::Folder;
 use svn_model::BaseNode;
 use svn_types::{Props, RelPath, Text};
 use svn_wcrows::{Work, read_work};
@@ -34,75 +39,138 @@ fn file_at<'a>(existing: &'a Existing, path: &RelPath) -> Option<(&'a Text, &'a 
     }
 }
 
-// Whether what is on disk is a file with the text of that stand-in, or the link that the text says.
-fn is_same(
-    alloc: Global,
-    found: &Summary,
-    name: &Text,
-    target: Option<&Text>,
-) -> Result<bool, DiskFault> {
-    match (found, target) {
-        (Summary::File { sha1, .. }, None) => Ok(*sha1 == sum_of(alloc, name)?),
-        (Summary::Link(found), Some(target)) => Ok(found == target),
-        _ => Ok(false),
-    }
-}
-
-// Refuses a file's path where something is that the copy doesn't have, and a file that can't be made anew.
-fn refuse_file<F: Folder>(
+// Refuses a file that can't be made anew: of which the copy has no text, or another one.
+fn refuse_no_text<F: Folder>(
     alloc: Global,
     folder: &F,
     admin: &Admin,
     existing: &Existing,
     path: &RelPath,
 ) -> Result<(), DiskFault> {
-    let Some((name, props)) = file_at(existing, path) else {
+    let Some((name, _)) = file_at(existing, path) else {
         return Err(DiskFault::Foreign);
     };
-    if !has_text(alloc, folder, admin, name)? {
-        return Err(DiskFault::NoText(path.clone()?));
-    }
-    let Some(found) = folder.sum(alloc, path)? else {
-        return Ok(());
-    };
-    let place = admin.text(alloc, name.as_slice())?;
-    let target = target_of(alloc, folder, &place, props)?;
-    if is_same(alloc, &found, name, target.as_ref())? {
+    if has_text(alloc, folder, admin, name)? {
         Ok(())
     } else {
-        Err(DiskFault::InTheWay(path.clone()?))
+        Err(DiskFault::NoText(path.clone()?))
     }
 }
 
-// Refuses a directory's path where something else is.
-fn refuse_no_directory<F: Folder>(
+// What is looked at before anything is done.
+#[derive(Clone, Copy)]
+struct Looking<'a> {
     alloc: Global,
-    folder: &F,
-    path: &RelPath,
-) -> Result<(), DiskFault> {
-    match folder.sum(alloc, path)? {
-        None | Some(Summary::Directory) => Ok(()),
-        Some(_) => Err(DiskFault::InTheWay(path.clone()?)),
-    }
+    existing: &'a Existing,
+    known: &'a KnownTexts,
+    // The paths at which something goes.
+    gone: &'a BTreeSet<RelPath>,
+    // Those of them at which a file comes.
+    files: &'a BTreeSet<RelPath>,
 }
 
-// Refuses what isn't the copy's, of all work.
-fn refuse_foreign<F: Folder>(
-    alloc: Global,
-    folder: &F,
-    admin: &Admin,
-    existing: &Existing,
-    work: &[Work],
-) -> Result<(), DiskFault> {
-    for item in work {
-        match item {
-            Work::MakeDirectory(path) => refuse_no_directory(alloc, folder, path)?,
-            Work::InstallFile(path) => refuse_file(alloc, folder, admin, existing, path)?,
-            // no checkout has anything to remove
-            Work::RemoveFile(_) | Work::RemoveDirectory(_) => return Err(DiskFault::Foreign),
+// What may be at a path.
+#[derive(Clone, Copy)]
+struct Takes {
+    directory: bool,
+    leaf: bool,
+}
+
+impl Looking<'_> {
+    // What may be at the path of some work: what is the copy's, and, where it is made in the place of something else, that.
+    fn takes(&self, work: &Work) -> Takes {
+        let other = self.gone.contains(work.path());
+        match work {
+            Work::MakeDirectory(_) => Takes {
+                directory: true,
+                leaf: other,
+            },
+            Work::InstallFile(_) => Takes {
+                directory: other,
+                leaf: true,
+            },
+            Work::RemoveDirectory(_) => Takes {
+                directory: true,
+                leaf: false,
+            },
+            Work::RemoveFile(_) => Takes {
+                directory: false,
+                leaf: true,
+            },
         }
     }
-    Ok(())
+
+    // Whether a file or a link has a text that the copy keeps.
+    fn is_own_leaf<F: Folder>(&self, folder: &F, path: &RelPath) -> Result<bool, DiskFault> {
+        match self.known.is_own_leaf(self.alloc, folder, path) {
+            Err(DiskFault::Changed(_)) => Ok(false),
+            other => other,
+        }
+    }
+
+    // Refuses the path of some work where something else is.
+    fn refuse_other<F: Folder>(&self, folder: &F, work: &Work) -> Result<(), DiskFault> {
+        let takes = self.takes(work);
+        let is_fine = match find(self.alloc, folder, work.path())? {
+            Found::Nothing => true,
+            Found::Directory => takes.directory,
+            Found::Leaf(_) => takes.leaf && self.is_own_leaf(folder, work.path())?,
+        };
+        if is_fine {
+            Ok(())
+        } else {
+            Err(DiskFault::InTheWay(work.path().clone()?))
+        }
+    }
+
+    // Whether a file comes in the place of a directory, or of one above it.
+    fn becomes_file(&self, path: &RelPath) -> Result<bool, DiskFault> {
+        if self.files.contains(path) {
+            return Ok(true);
+        }
+        for above in above_of(self.alloc, path)? {
+            if self.files.contains(&above) {
+                return Ok(true);
+            }
+        }
+        Ok(false)
+    }
+
+    // Refuses what is in a directory and doesn't go.
+    fn refuse_others_in<F: Folder>(&self, folder: &F, path: &RelPath) -> Result<(), DiskFault> {
+        if !self.becomes_file(path)? {
+            return Ok(());
+        }
+        let Found::Directory = find(self.alloc, folder, path)? else {
+            return Ok(());
+        };
+        for name in folder.list(self.alloc, path)? {
+            let below = path.join(self.alloc, &name)?;
+            if !self.gone.contains(&below) {
+                return Err(DiskFault::InTheWay(below));
+            }
+        }
+        Ok(())
+    }
+
+    // Refuses what isn't the copy's, of all work.
+    fn refuse_all<F: Folder>(
+        &self,
+        folder: &F,
+        admin: &Admin,
+        work: &[Work],
+    ) -> Result<(), DiskFault> {
+        for item in work {
+            if let Work::InstallFile(path) = item {
+                refuse_no_text(self.alloc, folder, admin, self.existing, path)?;
+            }
+            self.refuse_other(folder, item)?;
+            if let Work::RemoveDirectory(path) = item {
+                self.refuse_others_in(folder, path)?;
+            }
+        }
+        Ok(())
+    }
 }
 
 // Prepares a file anew, under the name that it had. Returns its path there if its bytes are to reach the disk.
@@ -117,10 +185,15 @@ fn prepare_again<F: Folder>(
     let Some((name, props)) = file_at(existing, path) else {
         return Err(DiskFault::Foreign);
     };
+    let is_locked = match existing.copy.get(path) {
+        Some(node) => existing.has_lock(node),
+        None => false,
+    };
     let new = admin.new_file(alloc, number)?;
     remove_if_any(alloc, folder, &new)?;
     let time = existing.time_of(path);
-    let is_file = prepare(alloc, folder, admin, number, &Prepared { name, props, time })?;
+    let what = Prepared { name, props, time };
+    let is_file = prepare_unless_locked(alloc, folder, admin, number, (&what, is_locked))?;
     Ok(if is_file { Some(new) } else { None })
 }
 
@@ -153,7 +226,7 @@ fn prepare_all_again<F: Folder>(
 fn complete<F: Folder>(
     alloc: Global,
     folder: &mut F,
-    existing: &mut Existing,
+    existing: Existing,
     sync: bool,
 ) -> Result<(), DiskFault> {
     if !existing.numbers.is_marked() {
@@ -163,11 +236,29 @@ fn complete<F: Folder>(
     let Some(work) = read_work(alloc, &existing.tables.work_queue)? else {
         return Err(DiskFault::Foreign);
     };
-    refuse_foreign(alloc, folder, &admin, existing, &work)?;
-    let image = existing.image_at_end(alloc)?;
-    prepare_all_again(alloc, folder, &admin, existing, &work, sync)?;
-    carry_out(alloc, folder, &admin, &work, sync)?;
-    replace_database(alloc, folder, &admin, image, sync)
+    let Some(task) = Task::of_queue(work) else {
+        return Err(DiskFault::Foreign);
+    };
+    let known = KnownTexts::of(alloc, &existing.tables.pristine)?;
+    let looking = Looking {
+        alloc,
+        existing: &existing,
+        known: &known,
+        gone: &task.gone(alloc)?,
+        files: &task.replacing_files(alloc)?,
+    };
+    looking.refuse_all(folder, &admin, &task.work)?;
+    prepare_all_again(alloc, folder, &admin, &existing, task.makings(), sync)?;
+    let mut images = existing.into_images();
+    let databases = Databases::after(alloc, &mut images, &task)?;
+    let doing = Doing {
+        alloc,
+        admin: &admin,
+        task: &task,
+        known: &known,
+        sync,
+    };
+    doing.carry_on(folder, databases)
 }
 
 /// Completes a copy whose making was cut off, and returns what there was to do. Where there is no copy yet, what the checkout left is removed. With `sync`
@@ -182,11 +273,11 @@ pub fn resume<F: Folder>(
     sync: bool,
 ) -> Result<Resumed, DiskFault> {
     match Existing::read(alloc, folder) {
-        Ok(mut existing) => {
+        Ok(existing) => {
             if !existing.is_busy() {
                 return Ok(Resumed::Nothing);
             }
-            complete(alloc, folder, &mut existing, sync)?;
+            complete(alloc, folder, existing, sync)?;
             Ok(Resumed::Completed)
         }
         Err(DiskFault::NoCopy) => {

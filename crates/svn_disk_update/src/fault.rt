@@ -3,9 +3,11 @@ ghost use Rattle.std.specs.Prelude.{◌≡◌};
 ghost use Rattle.svn_disk_update.specs.declared.fault.DiskFault.TheVariants.{Memory};
 
 use std::alloc::{AllocError, AllocFailed};
+use std::fmt;
+use svn_editor::Word;
 use svn_folder::FolderFault;
 use svn_image::ImageFault;
-use svn_types::{PathFault, RelPath};
+use svn_types::{PathFault, RelPath, Text};
 use svn_wc::WcFault;
 use svn_wcdb::{Refusal, WcdbFault};
 use svn_wcrows::RowsFault;
@@ -17,6 +19,33 @@ pub enum DiskFault {
     /// Something is at a path where the copy would put a node. Nothing was changed.
     #[error("{0}: something is in the way")]
     InTheWay(RelPath),
+    /// A file that would change was edited: what is on disk isn't the text of the copy.
+    #[error("{0}: changed on disk")]
+    Changed(RelPath),
+    /// Something else is on disk where the copy has a directory in which something would change. Nothing was changed.
+    #[error("{0}: not a directory on disk")]
+    NoDirectory(RelPath),
+    /// A local change, a conflict, a changelist or an external file is where something would change, or above or below it. Nothing was changed.
+    #[error("{0}: a local change")]
+    Local(RelPath),
+    /// The database has a journal, of a transaction that was begun and hasn't ended. Nothing was changed.
+    #[error("the database has a journal: a client is at work, or was cut off, and `svn cleanup` comes first")]
+    Journal,
+    /// A client has changed the copy meanwhile. Nothing was changed.
+    #[error("the working copy is in use")]
+    InUse,
+    /// Work of this library is left. Nothing was changed.
+    #[error("a change was cut off: run `svncopy resume`")]
+    Unfinished,
+    /// The working copy is of another repository. Nothing was changed.
+    #[error("{0}")]
+    Repository(OtherRepository),
+    /// The repository has no directory where the root of the copy says that it is. Nothing was changed.
+    #[error(".: the repository has no directory there")]
+    NoRoot,
+    /// What was put right isn't true of the repository. This is a fault of this crate.
+    #[error("{0}: it isn't put right")]
+    Untrue(RelPath),
     /// A working copy is there already. Nothing was changed.
     #[error("there is a working copy already")]
     ACopy,
@@ -62,6 +91,25 @@ pub enum DiskFault {
     /// An allocation failed.
     #[error("out of memory")]
     Memory,
+}
+
+/// The UUID of a copy's repository, and the one that it should have.
+#[derive(Debug, Drop)]
+pub struct OtherRepository {
+    /// That of the copy.
+    pub copy: Text,
+    /// The one that it should have.
+    pub wanted: Text,
+}
+
+impl fmt::Display for OtherRepository {
+    fn fmt<W: fmt::Write>(&self, f: &mut fmt::Formatter<W>) -> fmt::Result {
+        let (copy, wanted) = (Word(self.copy.as_slice()), Word(self.wanted.as_slice()));
+        write!(
+            f,
+            "the working copy is of repository {copy}, not of {wanted}"
+        )
+    }
 }
 
 impl From<FolderFault> for DiskFault {

@@ -69,6 +69,11 @@ impl Admin {
         self.path(alloc, "wc.db")
     }
 
+    /// The journal that is beside the database during a transaction.
+    pub(crate) fn journal(&self, alloc: Global) -> Result<RelPath, DiskFault> {
+        self.path(alloc, "wc.db-journal")
+    }
+
     /// The database, before it has its name.
     pub(crate) fn new_database(&self, alloc: Global) -> Result<RelPath, DiskFault>
         ensures { IfOk result (λ p. p ≡ self.now.name ∷ codes "tmp" ∷ codes "new-wc.db" ∷ []) }

@@ -34,27 +34,46 @@
 //! work of the new copy is done is tested by `test_disk` at each step, and not yet proved.
 #![tactic(auto)]
 
+mod above;
+mod bring;
 mod carry;
 mod checkout;
 mod clearing;
 mod completion;
+mod database_image;
+mod doing;
 mod existing;
 mod fault;
 mod inherited;
 mod inside;
+mod known;
 mod laws;
 mod layout;
+mod local;
+mod mend;
+mod mended;
 mod node_file;
+mod normal;
+mod on_disk;
+mod plan;
 mod prepared;
 mod read_back;
+mod refusals;
+mod rows;
 mod settle;
 mod source;
 mod steps;
+mod task;
+mod temporary;
 mod texts;
+mod wanted;
 
-pub use checkout::{Checkout, check_out, refuse_reserved};
+pub use checkout::{Checkout, check_out, refuse_check_out, refuse_reserved};
 pub use completion::{Resumed, resume};
-pub use fault::DiskFault;
+pub use fault::{DiskFault, OtherRepository};
 pub use inherited::inherited_props;
 pub use laws::a_directory_is_renamed_at_once;
+pub use mend::{Mend, mend, mend_changes};
+pub use mended::mended;
+pub use plan::{Change, PathChange};
 pub use source::{Source, TextSums};

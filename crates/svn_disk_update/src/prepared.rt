@@ -4,7 +4,7 @@ ghost use Rattle.svn_disk_update.specs.Places.{is_inside};
 
 use crate::fault::DiskFault;
 use crate::layout::Admin;
-use crate::node_file::{is_special, link_target, mode_of};
+use crate::node_file::{is_special, link_target, mode_of, props_if_locked};
 use std::alloc::Global;
 use svn_folder::{Entry, Folder};
 use svn_types::{Props, RelPath, Text};
@@ -60,4 +60,27 @@ pub(crate) fn prepare<F: Folder>(
             Ok(true)
         }
     }
+}
+
+/// The same of a file of a copy that is on disk: one that the client has locked in the repository isn't read-only.
+pub(crate) fn prepare_unless_locked<F: Folder>(
+    alloc: Global,
+    folder: &mut F,
+    admin: &Admin,
+    number: usize,
+    file: (&Prepared<'_>, bool),
+) -> Result<bool, DiskFault>
+    ensures { Goes (is_inside admin.now.name) (F.past folder.old) result (F.past folder.new) }
+{
+    let (file, is_locked) = file;
+    if !is_locked {
+        return prepare(alloc, folder, admin, number, file);
+    }
+    let props = props_if_locked(alloc, file.props)?;
+    let unlocked = Prepared {
+        name: file.name,
+        props: &props,
+        time: file.time,
+    };
+    prepare(alloc, folder, admin, number, &unlocked)
 }

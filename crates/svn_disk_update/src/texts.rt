@@ -11,7 +11,7 @@ use svn_digits::stand_in_of;
 use svn_folder::{Folder, Mode, Summary};
 use svn_types::{RelPath, Sha1Sum, Text};
 use svn_wcdb::TableRow;
-use svn_wcrows::pristine_record;
+use svn_wcrows::{number_at, pristine_record, text_at};
 
 /// Nobody writes to a pristine text.
 const PRISTINE: Mode = Mode {
@@ -64,6 +64,43 @@ impl Texts {
             alloc,
             sizes: BTreeMap::new(alloc),
         }
+    }
+
+    /// Those that rows of PRISTINE have. Whether each is in the folder is another matter.
+    pub(crate) fn of_rows(alloc: Global, rows: &[TableRow]) -> Result<Texts, DiskFault> {
+        let mut texts = Texts::new(alloc);
+        for row in rows {
+            if let (Some(name), Some(size)) = (text_at(row, 0), number_at(row, 2)) {
+                let sum = sum_of(alloc, &Text::from_slice(alloc, name)?)?;
+                texts.sizes.insert(sum.0, size)?;
+            }
+        }
+        Ok(texts)
+    }
+
+    /// Keeps the text of a file of a copy that is on disk: as `keep`, and writes it anew where it has a row, and the folder hasn't its bytes under its
+    /// name.
+    pub(crate) fn keep_whole<F: Folder, S: Source>(
+        &mut self,
+        folder: &mut F,
+        source: &mut S,
+        admin: &Admin,
+        rows: &mut Vec<TableRow>,
+        file: (&RelPath, &Text),
+    ) -> Result<u64, DiskFault> {
+        let (path, name) = file;
+        let sum = sum_of(self.alloc, name)?;
+        let is_lost = match self.sizes.get(&sum.0) {
+            Some(_) => !has_text(self.alloc, folder, admin, name)?,
+            None => false,
+        };
+        if is_lost {
+            if source.begin_text(&sum).is_none() {
+                return Err(DiskFault::NoText(path.clone()?));
+            }
+            self.put(folder, source, admin, name)?;
+        }
+        self.keep(folder, source, admin, rows, file)
     }
 
     // Writes a text under its name.

@@ -52,5 +52,5 @@ pub use properties::push_props;
 pub use read::read_tables;
 pub use small_rows::{lock_row, pristine_record};
 pub use tables::{Table, Tables};
-pub use values::{number_at, text_at};
+pub use values::{is_null, number_at, text_at};
 pub use work::{Work, read_work, work_rows};

@@ -35,3 +35,8 @@ pub(crate) fn bytes_at(row: &TableRow, column: usize) -> Option<&[u8]> {
         ValueRef::Null | ValueRef::Int(_) | ValueRef::Real(_) => None,
     }
 }
+
+/// Whether a row has NULL in a column, counted from 0: it has after the last.
+pub fn is_null(row: &TableRow, column: usize) -> bool {
+    matches!(value_at(row, column), ValueRef::Null)
+}

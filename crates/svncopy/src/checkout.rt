@@ -1,5 +1,6 @@
 //! `svncopy checkout`.
 
+use crate::clock::now;
 use crate::command_line;
 use crate::dump::{DumpSource, History, open};
 use crate::fault::Fault;
@@ -12,22 +13,11 @@ use std::io::ErrorKind;
 use std::path::PathBuf;
 use std::rt::{Clock, Files};
 use std::thread::Threads;
-use std::time::{SystemTime, UNIX_EPOCH};
-use svn_disk_update::{Checkout, check_out, inherited_props, refuse_reserved};
+use svn_disk_update::{Checkout, check_out, inherited_props, refuse_check_out, refuse_reserved};
+use svn_editor::PathWord;
 use svn_folder::{DiskFolder, SyncedFolder};
 use svn_types::{RelPath, Rev};
 use svn_wc::{WcFault, WorkingCopy};
-
-// The time now, in microseconds since 1970.
-fn now<T: Clock>(rt: &T) -> Result<u64, Fault> {
-    match SystemTime::now(rt) {
-        Ok(time) => Ok(match time.duration_since(UNIX_EPOCH) {
-            Ok(since) => u64::try_from(since.as_micros()).unwrap_or(0),
-            Err(_) => 0,
-        }),
-        Err(error) => Err(Fault::Clock(error)),
-    }
-}
 
 // The copy of a path in a revision.
 fn copy_of(
@@ -56,7 +46,24 @@ fn make_folder<T: Files>(rt: &T, folder: &str) -> Result<(), Fault> {
     }
 }
 
-/// Makes a working copy, and says of which revision it is.
+// Says what would be made, or refuses it.
+fn tell<T: Files<File = File> + Threads + Print + AllocGlobal>(
+    rt: &T,
+    word: &str,
+    copy: &WorkingCopy,
+) -> Result<(), Fault> {
+    let alloc = rt.alloc();
+    let folder = DiskFolder::new(rt, PathBuf::from_str(alloc, word)?);
+    refuse_check_out(alloc, &folder, copy)?;
+    for (path, _) in copy.iter() {
+        if println!(rt; "{word}: would be made: {}", PathWord(path)).is_err() {
+            return Err(Fault::Write);
+        }
+    }
+    Ok(())
+}
+
+/// Makes a working copy, and says of which revision it is; or says what would be made.
 pub(crate) fn make<T: Files<File = File> + Threads + Input + Print + Eprint + Clock + AllocGlobal>(
     rt: &T,
     words: &command_line::Checkout<'_>,
@@ -69,6 +76,9 @@ pub(crate) fn make<T: Files<File = File> + Threads + Input + Print + Eprint + Cl
     let rev = address.rev.unwrap_or(history.repo.latest());
     let copy = copy_of(alloc, &history, &address.path, rev)?;
     refuse_reserved(&copy)?;
+    if words.dry_run {
+        return tell(rt, words.folder, &copy);
+    }
     let inherited = inherited_props(alloc, &history.repo, rev, &address.path)?;
     make_folder(rt, words.folder)?;
     let folder = DiskFolder::new(rt, PathBuf::from_str(alloc, words.folder)?);

@@ -3,7 +3,7 @@
 use clap::{Arg, ArgAction, ArgMatches, Command, Error};
 use std::alloc::{AllocError, Global};
 
-const ABOUT: &str = "Makes working copies of Subversion from a dump of a repository.";
+const ABOUT: &str = "Makes working copies of Subversion from a dump of a repository, and puts them right.";
 
 const AFTER: &str = "\
 docs/COPY.md describes what is written and what is refused.
@@ -24,6 +24,23 @@ pub(crate) struct Checkout<'a> {
     pub(crate) folder: &'a str,
     /// The URL of the repository's root, if it is given.
     pub(crate) root: Option<&'a str>,
+    /// Whether to say what would be done, and to do nothing.
+    pub(crate) dry_run: bool,
+    /// Whether to print how far it is.
+    pub(crate) progress: bool,
+    /// Whether nothing is brought to the disk.
+    pub(crate) no_sync: bool,
+}
+
+/// `mend DUMP WC..`: put right what isn't true.
+#[derive(Debug, Drop)]
+pub(crate) struct Mend<'a> {
+    /// The dump, `-` for standard input.
+    pub(crate) dump: &'a str,
+    /// The folders.
+    pub(crate) folders: Vec<&'a str>,
+    /// Whether to say what would be done, and to do nothing.
+    pub(crate) dry_run: bool,
     /// Whether to print how far it is.
     pub(crate) progress: bool,
     /// Whether nothing is brought to the disk.
@@ -43,6 +60,7 @@ pub(crate) struct Resume<'a> {
 #[derive(Debug, Drop)]
 pub(crate) enum Request<'a> {
     Checkout(Checkout<'a>),
+    Mend(Mend<'a>),
     Resume(Resume<'a>),
 }
 
@@ -59,6 +77,22 @@ fn no_sync<'a>(alloc: Global) -> Arg<'a> {
         .long("no-sync")
         .action(ArgAction::SetTrue)
         .help("Leave it to the system when what is written reaches the disk: faster, but not safe against a loss of power")
+}
+
+// The word for how far it is.
+fn progress<'a>(alloc: Global) -> Arg<'a> {
+    Arg::new(alloc, "progress")
+        .long("progress")
+        .action(ArgAction::SetTrue)
+        .help("Print on standard error how many revisions and bytes are read")
+}
+
+// The word that leaves all as it is.
+fn dry_run<'a>(alloc: Global) -> Arg<'a> {
+    Arg::new(alloc, "dry-run")
+        .long("dry-run")
+        .action(ArgAction::SetTrue)
+        .help("Print what would be done, or what is in the way, and change nothing")
 }
 
 fn checkout_command<'a>(alloc: Global) -> Result<Command<'a>, AllocError> {
@@ -83,12 +117,18 @@ fn checkout_command<'a>(alloc: Global) -> Result<Command<'a>, AllocError> {
                 .value_name("URL")
                 .help("The URL of the repository's root, by default the copy's"),
         )?
-        .arg(
-            Arg::new(alloc, "progress")
-                .long("progress")
-                .action(ArgAction::SetTrue)
-                .help("Print on standard error how many revisions and bytes are read"),
-        )?
+        .arg(dry_run(alloc))?
+        .arg(progress(alloc))?
+        .arg(no_sync(alloc))
+}
+
+fn mend_command<'a>(alloc: Global) -> Result<Command<'a>, AllocError> {
+    Command::new(alloc, "mend")
+        .about("Put right what of working copies isn't true of their repository")
+        .arg(word(alloc, "dump", "DUMP", "The dump, or - for standard input"))?
+        .arg(word(alloc, "folders", "WC", "The folder of a working copy").num_args(1..))?
+        .arg(dry_run(alloc))?
+        .arg(progress(alloc))?
         .arg(no_sync(alloc))
 }
 
@@ -106,6 +146,7 @@ fn command<'a>(alloc: Global) -> Result<Command<'a>, AllocError> {
         .subcommand_required(true)
         .disable_help_subcommand(true)
         .subcommand(checkout_command(alloc)?)?
+        .subcommand(mend_command(alloc)?)?
         .subcommand(resume_command(alloc)?)
 }
 
@@ -115,6 +156,7 @@ fn checkout_of<'a>(matches: &ArgMatches<'a>) -> Checkout<'a> {
         url: matches.get_str("url").unwrap_or(""),
         folder: matches.get_str("folder").unwrap_or("."),
         root: matches.get_str("root"),
+        dry_run: matches.get_flag("dry-run"),
         progress: matches.get_flag("progress"),
         no_sync: matches.get_flag("no-sync"),
     }
@@ -127,6 +169,16 @@ fn folders_of<'a>(alloc: Global, matches: &ArgMatches<'a>) -> Result<Vec<&'a str
     }
 }
 
+fn mend_of<'a>(alloc: Global, matches: &ArgMatches<'a>) -> Result<Mend<'a>, AllocError> {
+    Ok(Mend {
+        dump: matches.get_str("dump").unwrap_or("-"),
+        folders: folders_of(alloc, matches)?,
+        dry_run: matches.get_flag("dry-run"),
+        progress: matches.get_flag("progress"),
+        no_sync: matches.get_flag("no-sync"),
+    })
+}
+
 /// What the words of a call ask for. The first is the program's name.
 pub(crate) fn request_of<'a>(alloc: Global, words: &'a [&'a str]) -> Result<Request<'a>, Error> {
     let matches = command(alloc)?.try_get_matches_from(words)?;
@@ -135,6 +187,7 @@ pub(crate) fn request_of<'a>(alloc: Global, words: &'a [&'a str]) -> Result<Requ
         return Err(Error::from(AllocError));
     };
     Ok(match name {
+        "mend" => Request::Mend(mend_of(alloc, words)?),
         "resume" => Request::Resume(Resume {
             folders: folders_of(alloc, words)?,
             no_sync: words.get_flag("no-sync"),

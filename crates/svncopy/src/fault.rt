@@ -1,6 +1,5 @@
 //! Why the program refuses.
 
-use crate::command_line::Checkout;
 use std::alloc::{AllocError, AllocFailed};
 use std::io;
 use svn_disk_update::DiskFault;
@@ -70,25 +69,25 @@ pub(crate) enum Fault {
 }
 
 impl Fault {
-    /// The word of a call that it is about.
-    pub(crate) fn subject<'a>(&self, words: &Checkout<'a>) -> &'a str {
+    /// The word of a call that it is about: that of the dump, of the URL or of the folder.
+    pub(crate) fn subject<'a>(&self, dump: &'a str, url: &'a str, folder: &'a str) -> &'a str {
         match self {
             Fault::Unread(_)
             | Fault::Kept { .. }
             | Fault::Front(_)
             | Fault::Dump { .. }
             | Fault::NoUuid
-            | Fault::NoRevision(_, _) => words.dump,
+            | Fault::NoRevision(_, _) => dump,
             Fault::OtherRoot
             | Fault::BadUrl
             | Fault::NoDirectory(_)
-            | Fault::Disk(DiskFault::Reserved(_)) => words.url,
+            | Fault::Disk(DiskFault::Reserved(_)) => url,
             Fault::Words(_)
             | Fault::NoFolder(_)
             | Fault::Clock(_)
             | Fault::Disk(_)
             | Fault::Write
-            | Fault::Memory => words.folder,
+            | Fault::Memory => folder,
         }
     }
 }

@@ -1,18 +1,23 @@
-//! `svncopy`: makes working copies of Subversion from a dump of a repository.
+//! `svncopy`: makes working copies of Subversion from a dump of a repository, and puts them right.
 //! `docs/COPY.md` is the manual.
 #![tactic(auto)]
 
 mod checkout;
+mod clock;
 mod command_line;
 mod dump;
 mod fault;
+mod mend;
 mod progress;
+mod refusing;
 mod resume;
 mod url;
 
 use crate::checkout::make;
 use crate::command_line::{Request, Resume, request_of};
 use crate::fault::Fault;
+use crate::mend::mend_all;
+use crate::refusing::{REFUSED, refuse};
 use crate::resume::complete;
 use std::env;
 use std::env::Env;
@@ -20,9 +25,6 @@ use std::fs::File;
 use std::process::ExitCode;
 use std::rt::{Clock, Files};
 use std::thread::Threads;
-
-/// The status of what was refused, or failed.
-const REFUSED: u8 = 2;
 
 // The words of the command line; the first is the program's name.
 fn words(rt: &(impl Env + AllocGlobal)) -> Result<Vec<String>, Fault> {
@@ -34,12 +36,6 @@ fn words(rt: &(impl Env + AllocGlobal)) -> Result<Vec<String>, Fault> {
         Ok(words) => Ok(words),
         Err(_) => Err(Fault::Memory),
     }
-}
-
-// Where standard error can't be written either, the status alone tells.
-fn refuse<T: Eprint>(rt: &T, name: &str, fault: &Fault) -> ExitCode {
-    let _ = eprintln!(rt; "svncopy: {name}: {fault}");
-    ExitCode::from(REFUSED)
 }
 
 // Completes each copy in turn; one that is refused doesn't keep the others from it.
@@ -63,7 +59,14 @@ fn answer<T: Files<File = File> + Threads + Input + Print + Eprint + Clock + All
     match request {
         Request::Checkout(words) => match make(rt, words) {
             Ok(()) => ExitCode::SUCCESS,
-            Err(fault) => refuse(rt, fault.subject(words), &fault),
+            Err(fault) => {
+                let subject = fault.subject(words.dump, words.url, words.folder);
+                refuse(rt, subject, &fault)
+            }
+        },
+        Request::Mend(words) => match mend_all(rt, words) {
+            Ok(status) => status,
+            Err(fault) => refuse(rt, fault.subject(words.dump, "", "mend"), &fault),
         },
         Request::Resume(words) => complete_all(rt, words),
     }

@@ -10,6 +10,9 @@ use svn_types::{Digest, RelPath, Rev, Sha1Sum, Text};
 use svn_wc::WorkingCopy;
 use svn_wcrows::LastChange;
 
+/// The UUID of the repository.
+pub(crate) const UUID: &[u8] = b"8c2cd125-01f3-4a01-a4b5-22ec721dff0f";
+
 /// The files of the history: their paths, texts, and the property that each has.
 const FILES: [(&str, &str, &str); 5] = [
     ("a", "first\n", "svn:executable"),
@@ -19,13 +22,40 @@ const FILES: [(&str, &str, &str); 5] = [
     ("link", "link a", "svn:special"),
 ];
 
+/// Their texts, and those of the copies that are put right.
+pub(crate) const TEXTS: [&str; 15] = [
+    "first\n",
+    "second\n",
+    "",
+    "link a",
+    "extra\n",
+    "same\n",
+    "gone\n",
+    "a file\n",
+    "in other\n",
+    "props\n",
+    "old text\n",
+    "missing\n",
+    "new text\n",
+    "in kind\n",
+    "link text",
+];
+
 /// A folder in memory that stops, and knows what of it is on the disk.
 pub(crate) type Stopping = SyncedFolder<StoppedFolder<MemoryFolder>>;
 
-/// Its texts, of which one is begun.
+/// Texts, of which one is begun.
 #[derive(Clone, Copy, Debug)]
 pub(crate) struct Known {
+    texts: &'static [&'static str],
     begun: Option<&'static str>,
+}
+
+impl Known {
+    /// These texts, of which none is begun.
+    pub(crate) fn new(texts: &'static [&'static str]) -> Known {
+        Known { texts, begun: None }
+    }
 }
 
 impl Pieces for Known {
@@ -43,9 +73,9 @@ impl Pieces for Known {
 
 impl Source for Known {
     fn begin_text(&mut self, sha1: &Sha1Sum) -> Option<TextSums> {
-        for (_, text, _) in FILES {
+        for text in self.texts {
             if Sha1Sum::of(text.as_bytes()) == *sha1 {
-                self.begun = Some(text);
+                self.begun = Some(*text);
                 return Some(TextSums {
                     len: text.len() as u64,
                     md5: Digest::of(text.as_bytes()),
@@ -114,13 +144,13 @@ pub(crate) fn make<F: Folder>(
 ) -> Result<()> {
     let what = Checkout {
         url: b"svn://h/repo",
-        uuid: b"8c2cd125-01f3-4a01-a4b5-22ec721dff0f",
+        uuid: UUID,
         copy,
         inherited: None,
         time: 1_700_000_000_000_000,
         sync: true,
     };
-    check_out(alloc, folder, &mut Known { begun: None }, &what)?;
+    check_out(alloc, folder, &mut Known::new(&TEXTS), &what)?;
     Ok(())
 }
 

@@ -1,13 +1,19 @@
-//! Working copies that are brought to disk: each stop of a checkout and of its completion, by the program's end and by a loss of power; what the folder
-//! has at the end; what is refused. The folder is one in memory, whose crashes are those of `svn_folder`.
+//! Working copies that are brought to disk: each stop of a checkout and of its completion, by the program's end and by a loss of power; each stop of a false
+//! copy's being put right; what the folder has at the end; what is refused. The folder is one in memory, whose crashes are those of `svn_folder`.
 #![tactic(auto)]
 
 mod copies;
+mod histories;
+mod mend_refusals;
+mod mends;
+mod opaque;
 mod refusals;
 mod stops;
 
 use anyhow::Result;
 use copies::{copy, empty, inner, make};
+use mend_refusals::try_mend_refusals;
+use mends::{Falsehood, try_stopped_mends};
 use refusals::try_refusals;
 use std::alloc::Global;
 use std::process::ExitCode;
@@ -30,7 +36,10 @@ fn try_all<R: Print + AllocGlobal>(rt: &R) -> Result<()> {
     try_stops(rt, &copy, &whole)?;
     try_resumes(rt, &copy, &whole)?;
     try_losses(rt)?;
-    try_refusals(rt, &copy, &whole)
+    try_refusals(rt, &copy, &whole)?;
+    let falsehood = Falsehood::new(alloc)?;
+    try_stopped_mends(rt, &falsehood)?;
+    try_mend_refusals(rt, &falsehood)
 }
 
 fn main(rt: HostRuntime) -> ExitCode {

@@ -27,7 +27,7 @@ const PATHS: [&str; 12] = [
 
 const DATABASE: &str = ".svn/wc.db";
 
-fn look<F: Folder>(alloc: Global, folder: &F, path: &str) -> Result<Option<Entry>> {
+pub(crate) fn look<F: Folder>(alloc: Global, folder: &F, path: &str) -> Result<Option<Entry>> {
     Ok(folder.look(alloc, &RelPath::parse(alloc, path)?)?)
 }
 

@@ -1,0 +1,92 @@
+//! Local changes, conflicts, changelists and external files that are in the way of a change.
+
+use crate::above::{above_of, note_above};
+use crate::existing::{is_base, path_of};
+use crate::fault::DiskFault;
+use crate::plan::Plan;
+use std::alloc::Global;
+use std::collections::BTreeSet;
+use svn_types::RelPath;
+use svn_wcdb::TableRow;
+use svn_wcrows::{Tables, is_null};
+
+/// The column of ACTUAL_NODE that has a conflict.
+const CONFLICT: usize = 11;
+
+// Where a plan changes something.
+#[derive(Drop)]
+struct Reach<'a> {
+    alloc: Global,
+    plan: &'a Plan<'a>,
+    // The directories above what changes, without the root.
+    above: BTreeSet<RelPath>,
+}
+
+impl<'a> Reach<'a> {
+    fn of(alloc: Global, plan: &'a Plan<'a>) -> Result<Reach<'a>, DiskFault> {
+        let mut above = BTreeSet::new(alloc);
+        for path in plan.changes.keys() {
+            note_above(alloc, &mut above, path)?;
+        }
+        Ok(Reach { alloc, plan, above })
+    }
+
+    // Whether something above a path goes.
+    fn goes(&self, path: &RelPath) -> Result<bool, DiskFault> {
+        for directory in above_of(self.alloc, path)? {
+            if self.plan.removes(&directory) {
+                return Ok(true);
+            }
+        }
+        Ok(false)
+    }
+
+    // Refuses a local change at a path that changes, or below one that goes; and above one that changes, if it counts for all below.
+    fn refuse(&self, path: &RelPath, counts_below: bool) -> Result<(), DiskFault> {
+        let is_near = self.plan.changes.contains_key(path)
+            || (counts_below && self.above.contains(path))
+            || self.goes(path)?;
+        if is_near {
+            return Err(DiskFault::Local(path.clone()?));
+        }
+        Ok(())
+    }
+
+    // Refuses that of a row.
+    fn refuse_row(&self, row: &TableRow, counts_below: bool) -> Result<(), DiskFault> {
+        match path_of(self.alloc, row)? {
+            Some(path) => self.refuse(&path, counts_below),
+            None => Ok(()),
+        }
+    }
+
+    // Refuses those of the tree: what is added, deleted, copied, moved or replaced, and external files.
+    fn refuse_nodes(&self, rows: &[TableRow]) -> Result<(), DiskFault> {
+        for row in rows {
+            if !is_base(row) {
+                self.refuse_row(row, true)?;
+            }
+        }
+        Ok(())
+    }
+
+    // Refuses those of nodes: properties, changelists and conflicts, of which a conflict counts for all below.
+    fn refuse_actual(&self, rows: &[TableRow]) -> Result<(), DiskFault> {
+        for row in rows {
+            self.refuse_row(row, !is_null(row, CONFLICT))?;
+        }
+        Ok(())
+    }
+}
+
+/// Refuses the first local change that is in the way: at a path that changes, or below one that goes; above one that changes if it is a change of the
+/// tree or a conflict. Local, Memory.
+pub(crate) fn refuse_local(
+    alloc: Global,
+    tables: &Tables,
+    plan: &Plan<'_>,
+) -> Result<(), DiskFault> {
+    let reach = Reach::of(alloc, plan)?;
+    reach.refuse_nodes(&tables.nodes)?;
+    reach.refuse_actual(&tables.actual_node)
+}

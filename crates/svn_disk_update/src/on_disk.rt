@@ -1,0 +1,104 @@
+//! What is on disk, compared with a copy.
+
+use crate::fault::DiskFault;
+use crate::node_file::{LINK, file_of, is_translated_on_disk, text_of};
+use crate::normal::{Keywords, with_line_ends, without_values};
+use std::alloc::Global;
+use svn_digits::{stand_in, stand_in_of};
+use svn_folder::{Entry, Folder, Summary};
+use svn_model::BaseNode;
+use svn_types::{Props, RelPath, Text};
+
+/// What is at a path on disk.
+#[derive(Debug, Drop)]
+pub(crate) enum Found {
+    /// Nothing.
+    Nothing,
+    /// A directory.
+    Directory,
+    /// A file or a link whose text has this stand-in.
+    Leaf(Text),
+}
+
+// The text of a link as the repository has it.
+fn link_text(alloc: Global, target: &Text) -> Result<Vec<u8>, DiskFault> {
+    let mut text = Vec::from_slice(alloc, LINK)?;
+    text.extend_from_slice(target.as_slice())?;
+    Ok(text)
+}
+
+/// What is at a path on disk.
+pub(crate) fn find<F: Folder>(
+    alloc: Global,
+    folder: &F,
+    path: &RelPath,
+) -> Result<Found, DiskFault> {
+    Ok(match folder.sum(alloc, path)? {
+        None => Found::Nothing,
+        Some(Summary::Directory) => Found::Directory,
+        Some(Summary::File { sha1, .. }) => Found::Leaf(stand_in_of(alloc, &sha1.0)?),
+        Some(Summary::Link(target)) => {
+            Found::Leaf(stand_in(alloc, &link_text(alloc, &target)?)?)
+        }
+    })
+}
+
+// Whether a file on disk is another way to write a text, by its properties.
+fn is_translated<F: Folder>(
+    alloc: Global,
+    folder: &F,
+    path: &RelPath,
+    file: (&Text, &Props),
+) -> Result<bool, DiskFault> {
+    let (name, props) = file;
+    if !is_translated_on_disk(props) {
+        return Ok(false);
+    }
+    match folder.look(alloc, path)? {
+        Some(Entry::File(bytes, _)) => {
+            let text = text_of(alloc, bytes.as_slice(), props)?;
+            Ok(stand_in(alloc, &text)? == *name)
+        }
+        _ => Ok(false),
+    }
+}
+
+/// Refuses what is at the path of a file of a copy, if it isn't that file's text, as it is or as its properties have it written: an edit. Changed, Folder,
+/// Memory.
+pub(crate) fn refuse_edit<F: Folder>(
+    alloc: Global,
+    folder: &F,
+    path: &RelPath,
+    node: &BaseNode,
+) -> Result<(), DiskFault> {
+    let is_own = match (find(alloc, folder, path)?, file_of(node)) {
+        (Found::Nothing, _) => true,
+        (Found::Leaf(found), Some((text, props))) => {
+            found == *text || is_translated(alloc, folder, path, (text, props))?
+        }
+        _ => false,
+    };
+    if is_own {
+        Ok(())
+    } else {
+        Err(DiskFault::Changed(path.clone()?))
+    }
+}
+
+/// The texts that a file on disk may be in the repository, whatever its properties are: without values of keywords, and with each kind of line ends. None of
+/// what is no file.
+pub(crate) fn readings<F: Folder>(
+    alloc: Global,
+    folder: &F,
+    path: &RelPath,
+) -> Result<Option<[Text; 3]>, DiskFault> {
+    let Some(Entry::File(bytes, _)) = folder.look(alloc, path)? else {
+        return Ok(None);
+    };
+    let plain = without_values(alloc, bytes.as_slice(), Keywords::All)?;
+    Ok(Some([
+        stand_in(alloc, &plain)?,
+        stand_in(alloc, &with_line_ends(alloc, &plain, b"\n")?)?,
+        stand_in(alloc, &with_line_ends(alloc, &plain, b"\r\n")?)?,
+    ]))
+}

@@ -1,0 +1,249 @@
+//! What differs between two working copies, and what is done on disk to get from one to the other.
+
+use crate::above::note_above;
+use crate::fault::DiskFault;
+use crate::node_file::is_same_on_disk;
+use std::alloc::Global;
+use std::collections::{BTreeMap, BTreeSet};
+use svn_folder::Folder;
+use svn_model::BaseNode;
+use svn_types::RelPath;
+use svn_wc::WorkingCopy;
+use svn_wcrows::Work;
+
+/// What becomes of a path.
+#[derive(Clone, Copy, Debug, PartialEq, Eq)]
+pub enum Change {
+    /// A node comes where there was none.
+    Added,
+    /// The node goes.
+    Removed,
+    /// A file becomes a directory, or a directory a file.
+    Replaced,
+    /// A file has another text on disk, or is used in another way.
+    Rewritten,
+    /// What the copy keeps of the node changes, and nothing on disk.
+    Recorded,
+    /// A directory that isn't on disk is made again, for what comes in it.
+    Restored,
+}
+
+impl Change {
+    /// Whether something is removed.
+    fn removes(self) -> bool {
+        matches!(self, Change::Removed | Change::Replaced)
+    }
+
+    /// Whether something is made.
+    fn makes(self) -> bool {
+        matches!(
+            self,
+            Change::Added | Change::Replaced | Change::Rewritten | Change::Restored
+        )
+    }
+
+    // Whether something changes on disk.
+    fn is_on_disk(self) -> bool {
+        !matches!(self, Change::Recorded)
+    }
+}
+
+/// What becomes of a path, with the path.
+#[derive(Debug, Drop)]
+pub struct PathChange {
+    /// The path in the copy.
+    pub path: RelPath,
+    /// What becomes of it.
+    pub change: Change,
+}
+
+// What becomes of a node that both copies have.
+fn change_between(old: &BaseNode, new: &BaseNode) -> Option<Change> {
+    if old == new {
+        return None;
+    }
+    Some(match (old.kind(), new.kind()) {
+        (None, None) => Change::Recorded,
+        (None, Some(_)) => Change::Added,
+        (Some(_), None) => Change::Removed,
+        (Some(was), Some(is)) => {
+            if was != is {
+                Change::Replaced
+            } else if is_same_on_disk(old, new) {
+                Change::Recorded
+            } else {
+                Change::Rewritten
+            }
+        }
+    })
+}
+
+// What becomes of a path.
+fn change_of(old: Option<&BaseNode>, new: Option<&BaseNode>) -> Option<Change> {
+    match (old, new) {
+        (None, None) => None,
+        (Some(old), Some(new)) => change_between(old, new),
+        (Some(old), None) => Some(if old.is_present() {
+            Change::Removed
+        } else {
+            Change::Recorded
+        }),
+        (None, Some(new)) => Some(if new.is_present() {
+            Change::Added
+        } else {
+            Change::Recorded
+        }),
+    }
+}
+
+/// Two copies, and what becomes of each path at which they differ.
+#[derive(Drop)]
+pub(crate) struct Plan<'a> {
+    /// The copy that is there.
+    pub(crate) old: &'a WorkingCopy,
+    /// The copy that is wanted.
+    pub(crate) new: &'a WorkingCopy,
+    /// What becomes of each path at which something does.
+    pub(crate) changes: BTreeMap<RelPath, Change>,
+}
+
+impl<'a> Plan<'a> {
+    /// What leads from one copy to the other.
+    pub(crate) fn between(
+        alloc: Global,
+        old: &'a WorkingCopy,
+        new: &'a WorkingCopy,
+    ) -> Result<Plan<'a>, DiskFault> {
+        let mut plan = Plan {
+            old,
+            new,
+            changes: BTreeMap::new(alloc),
+        };
+        plan.note_all(old)?;
+        plan.note_all(new)?;
+        Ok(plan)
+    }
+
+    // Notes what becomes of each path of a copy.
+    fn note_all(&mut self, copy: &WorkingCopy) -> Result<(), DiskFault> {
+        for (path, _) in copy.iter() {
+            if let Some(change) = change_of(self.old.get(path), self.new.get(path)) {
+                self.changes.insert(path.clone()?, change)?;
+            }
+        }
+        Ok(())
+    }
+
+    // The directories above what is made, without the root, each once.
+    fn above_makings(&self, alloc: Global) -> Result<BTreeSet<RelPath>, DiskFault> {
+        let mut above = BTreeSet::new(alloc);
+        for (path, change) in &self.changes {
+            if change.makes() {
+                note_above(alloc, &mut above, path)?;
+            }
+        }
+        Ok(above)
+    }
+
+    /// The directories above what changes on disk, without the root, each once.
+    pub(crate) fn above_changes(&self, alloc: Global) -> Result<BTreeSet<RelPath>, DiskFault> {
+        let mut above = BTreeSet::new(alloc);
+        for (path, change) in &self.changes {
+            if change.is_on_disk() {
+                note_above(alloc, &mut above, path)?;
+            }
+        }
+        Ok(above)
+    }
+
+    /// Plans the directories that aren't on disk, and that something comes in.
+    pub(crate) fn restore<F: Folder>(
+        &mut self,
+        alloc: Global,
+        folder: &F,
+    ) -> Result<(), DiskFault> {
+        for path in self.above_makings(alloc)? {
+            let is_planned = match self.changes.get(&path) {
+                Some(change) => change.makes(),
+                None => false,
+            };
+            if !is_planned && folder.look(alloc, &path)?.is_none() {
+                self.changes.insert(path, Change::Restored)?;
+            }
+        }
+        Ok(())
+    }
+
+    /// Whether nothing differs.
+    pub(crate) fn is_empty(&self) -> bool {
+        self.changes.is_empty()
+    }
+
+    /// Whether what is at a path goes.
+    pub(crate) fn removes(&self, path: &RelPath) -> bool {
+        match self.changes.get(path) {
+            Some(change) => change.removes(),
+            None => false,
+        }
+    }
+
+    /// Whether something is made where something else goes: then work with both can't be done again once it is half done.
+    pub(crate) fn changes_kind(&self) -> bool {
+        self.changes
+            .values()
+            .any(|change| *change == Change::Replaced)
+    }
+
+    /// The files that go, and then the directories, from below.
+    pub(crate) fn removals(&self, alloc: Global) -> Result<Vec<Work>, DiskFault> {
+        let mut work = Vec::new(alloc);
+        let mut directories = Vec::new(alloc);
+        for (path, change) in &self.changes {
+            if change.removes() {
+                if is_directory(self.old.get(path)) {
+                    directories.push(Work::RemoveDirectory(path.clone()?))?;
+                } else {
+                    work.push(Work::RemoveFile(path.clone()?))?;
+                }
+            }
+        }
+        directories.reverse();
+        work.append(&mut directories)?;
+        Ok(work)
+    }
+
+    /// The directories that come, from above, and then the files that come or become others.
+    pub(crate) fn makings(&self, alloc: Global) -> Result<Vec<Work>, DiskFault> {
+        let mut work = Vec::new(alloc);
+        let mut files = Vec::new(alloc);
+        for (path, change) in &self.changes {
+            if change.makes() {
+                if is_directory(self.new.get(path)) {
+                    work.push(Work::MakeDirectory(path.clone()?))?;
+                } else {
+                    files.push(Work::InstallFile(path.clone()?))?;
+                }
+            }
+        }
+        work.append(&mut files)?;
+        Ok(work)
+    }
+
+    /// What becomes of each path, in path order.
+    pub(crate) fn into_changes(self, alloc: Global) -> Result<Vec<PathChange>, DiskFault> {
+        let Plan { changes, .. } = self;
+        let mut list = Vec::new(alloc);
+        for (path, change) in changes {
+            list.push(PathChange { path, change })?;
+        }
+        Ok(list)
+    }
+}
+
+// Whether it is a directory.
+fn is_directory(node: Option<&BaseNode>) -> bool {
+    match node {
+        Some(node) => node.is_directory(),
+        None => false,
+    }
+}

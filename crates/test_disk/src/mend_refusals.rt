@@ -1,0 +1,110 @@
+//! What keeps a false copy from being put right, and what would be done with one.
+
+use crate::copies::{Known, TEXTS};
+use crate::mends::{Falsehood, Left, left, what};
+use anyhow::Result;
+use std::alloc::Global;
+use svn_disk_update::{Mend, mend, mend_changes};
+use svn_folder::{Entry, Folder, Mode, Step};
+use svn_types::{RelPath, Text};
+
+// What is done on disk before: a path, and a file's text that comes there, a link's target after `>`, or nothing, which makes a directory.
+type Edit = (&'static str, &'static str);
+
+/// What is on disk in place of what the copy has there, and in the way.
+const EDITS: [Edit; 11] = [
+    ("text", "mine\n"),
+    ("text", "old text\n"),
+    ("d/extra", "mine\n"),
+    ("gone/e/f", ">elsewhere"),
+    ("gone/e/mine", "mine\n"),
+    ("d/missing", "missing\n"),
+    ("d/missing", ""),
+    ("other/mine", "mine\n"),
+    ("kind", ""),
+    ("d/same", "mine\n"),
+    (".svn/wc.db-journal", "begun\n"),
+];
+
+// What comes to a path.
+fn entry_of(alloc: Global, text: &str) -> Result<Entry> {
+    if text.is_empty() {
+        return Ok(Entry::Directory);
+    }
+    Ok(match text.strip_prefix('>') {
+        Some(target) => Entry::Link(Text::from_str(alloc, target)?),
+        None => Entry::File(Text::from_str(alloc, text)?, Mode::PLAIN),
+    })
+}
+
+// Puts something to a path, in place of a file that is there.
+fn edit(alloc: Global, folder: &mut Left, edit: &Edit) -> Result<()> {
+    let (path, text) = edit;
+    let path = RelPath::parse(alloc, path)?;
+    if folder.look(alloc, &path)?.is_some() {
+        folder.take(Step::RemoveFile(path.clone()?))?;
+    }
+    folder.take(Step::Make {
+        path,
+        entry: entry_of(alloc, text)?,
+        modified: None,
+    })?;
+    Ok(())
+}
+
+// What the mending says.
+fn said(alloc: Global, folder: &mut Left, what: &Mend<'_>) -> Result<String> {
+    let mut source = Known::new(&TEXTS);
+    Ok(match mend(alloc, folder, &mut source, what) {
+        Ok(changes) => format!(in alloc; "{} paths", changes.len())?,
+        Err(fault) => format!(in alloc; "{fault}")?,
+    })
+}
+
+fn try_edit<R: Print + AllocGlobal>(rt: &R, all: &Falsehood, row: &Edit) -> Result<()> {
+    let alloc = rt.alloc();
+    let mut folder = left(alloc, all.stopped(alloc, 0)?);
+    edit(alloc, &mut folder, row)?;
+    let before = folder.folder.0.steps().len();
+    let said = said(alloc, &mut folder, &what(&all.repo))?;
+    let any = if folder.folder.0.steps().len() == before {
+        "nothing changed"
+    } else {
+        "mended"
+    };
+    println!(rt; "mend beside {}: {said} ({any})", row.0)?;
+    Ok(())
+}
+
+// By another repository, and of a copy that is true.
+fn try_others<R: Print + AllocGlobal>(rt: &R, all: &Falsehood) -> Result<()> {
+    let alloc = rt.alloc();
+    let mut folder = left(alloc, all.stopped(alloc, 0)?);
+    let other = Mend {
+        uuid: b"another",
+        ..what(&all.repo)
+    };
+    println!(rt; "mend by another: {}", said(alloc, &mut folder, &other)?)?;
+    println!(rt; "mend: {}", said(alloc, &mut folder, &what(&all.repo))?)?;
+    println!(rt; "mend again: {}", said(alloc, &mut folder, &what(&all.repo))?)?;
+    Ok(())
+}
+
+// What would be done.
+fn try_changes<R: Print + AllocGlobal>(rt: &R, all: &Falsehood) -> Result<()> {
+    let alloc = rt.alloc();
+    let folder = left(alloc, all.stopped(alloc, 0)?);
+    for change in &mend_changes(alloc, &folder, &what(&all.repo))? {
+        println!(rt; "would be mended: {}: {:?}", change.path, change.change)?;
+    }
+    Ok(())
+}
+
+/// Tries each edit, another repository and a true copy, and says what would be done.
+pub(crate) fn try_mend_refusals<R: Print + AllocGlobal>(rt: &R, all: &Falsehood) -> Result<()> {
+    for row in &EDITS {
+        try_edit(rt, all, row)?;
+    }
+    try_others(rt, all)?;
+    try_changes(rt, all)
+}

@@ -1,0 +1,191 @@
+//! A false copy that is put right: each stop of that, by the program's end, with its completion; what is refused; what would be done.
+
+use crate::copies::{Known, TEXTS, UUID, empty, inner, make};
+use crate::histories::{FOUND, LOST, Node, repo_of};
+use crate::opaque::Opaque;
+use crate::stops::look;
+use anyhow::{Result, bail};
+use std::alloc::Global;
+use svn_disk_update::{Mend, Resumed, mend, resume};
+use svn_folder::{Entry, MemoryFolder, Mode, SyncedFolder};
+use svn_repo::Repo;
+use svn_types::{Rev, Text};
+use svn_wc::WorkingCopy;
+use svn_wcdb::read_base_tree;
+
+const DATABASE: &str = ".svn/wc.db";
+
+/// A false copy, the repository, and the copy put right.
+#[derive(Drop)]
+pub(crate) struct Falsehood {
+    lost: WorkingCopy,
+    found: WorkingCopy,
+    pub(crate) repo: Repo,
+    // How many steps the false copy takes until it is on disk.
+    made: u64,
+}
+
+/// A folder that a run has left, of which nothing is known.
+pub(crate) type Left = SyncedFolder<Opaque<MemoryFolder>>;
+
+fn copy_of(alloc: Global, repo: &Repo) -> Result<WorkingCopy> {
+    Ok(WorkingCopy::checkout(alloc, repo, Rev(1))?)
+}
+
+/// By what a copy is put right.
+pub(crate) fn what(repo: &Repo) -> Mend<'_> {
+    Mend {
+        repo,
+        uuid: UUID,
+        time: 1_700_000_000_000_000,
+        sync: true,
+    }
+}
+
+// Whether the bytes are the database of a copy with these nodes alone.
+fn is_database(alloc: Global, bytes: &[u8], copy: &WorkingCopy) -> Result<bool> {
+    let Ok(tree) = read_base_tree(alloc, bytes) else {
+        bail!("the database is refused")
+    };
+    for (path, node) in &tree.nodes {
+        if copy.get(path) != Some(node) {
+            return Ok(false);
+        }
+    }
+    Ok(tree.nodes.len() == copy.iter().count())
+}
+
+// What of a node is on disk.
+fn entry_of(alloc: Global, node: &Node) -> Result<Entry> {
+    let (_, text, property) = node;
+    let Some(text) = text else {
+        return Ok(Entry::Directory);
+    };
+    if *property == "svn:special" {
+        let target = text.strip_prefix("link ").unwrap_or("");
+        return Ok(Entry::Link(Text::from_str(alloc, target)?));
+    }
+    let mode = Mode {
+        executable: *property == "svn:executable",
+        read_only: *property == "svn:needs-lock",
+    };
+    Ok(Entry::File(Text::from_str(alloc, text)?, mode))
+}
+
+// Fails where a node of the repository isn't on disk.
+fn check_found(alloc: Global, folder: &MemoryFolder) -> Result<()> {
+    for node in &FOUND {
+        if look(alloc, folder, node.0)? != Some(entry_of(alloc, node)?) {
+            bail!("another entry at `{}`", node.0)
+        }
+    }
+    Ok(())
+}
+
+// Fails where something of the old copy is left that the repository doesn't have.
+fn check_lost(alloc: Global, folder: &MemoryFolder) -> Result<()> {
+    for (path, _, _) in &LOST {
+        let is_found = FOUND.iter().any(|(found, _, _)| found == path);
+        if !is_found && look(alloc, folder, path)?.is_some() {
+            bail!("`{path}` is left")
+        }
+    }
+    Ok(())
+}
+
+/// The folder that a run has left, as one of which nothing is known.
+pub(crate) fn left(alloc: Global, folder: MemoryFolder) -> Left {
+    SyncedFolder::new(alloc, Opaque(folder))
+}
+
+/// The folder in memory in it.
+pub(crate) fn memory(folder: Left) -> MemoryFolder {
+    let SyncedFolder { folder, .. } = folder;
+    folder.0
+}
+
+impl Falsehood {
+    pub(crate) fn new(alloc: Global) -> Result<Falsehood> {
+        let lost = copy_of(alloc, &repo_of(alloc, &LOST)?)?;
+        let repo = repo_of(alloc, &FOUND)?;
+        let found = copy_of(alloc, &repo)?;
+        let mut folder = empty(alloc, u64::MAX);
+        make(alloc, &mut folder, &lost)?;
+        let made = inner(folder).steps().len() as u64;
+        Ok(Falsehood {
+            lost,
+            found,
+            repo,
+            made,
+        })
+    }
+
+    /// A folder with the false copy, after so many steps of putting it right.
+    pub(crate) fn stopped(&self, alloc: Global, limit: u64) -> Result<MemoryFolder> {
+        let mut folder = empty(alloc, self.made.saturating_add(limit));
+        make(alloc, &mut folder, &self.lost)?;
+        let mut source = Known::new(&TEXTS);
+        let _ = mend(alloc, &mut folder, &mut source, &what(&self.repo));
+        Ok(inner(folder))
+    }
+
+    // Which of the two copies the database stands for.
+    fn word_of(&self, alloc: Global, folder: &MemoryFolder) -> Result<&'static str> {
+        let Some(Entry::File(bytes, _)) = look(alloc, folder, DATABASE)? else {
+            bail!("there is no database")
+        };
+        if is_database(alloc, bytes.as_slice(), &self.lost)? {
+            return Ok("the old copy");
+        }
+        if is_database(alloc, bytes.as_slice(), &self.found)? {
+            return Ok("the new copy");
+        }
+        bail!("neither copy")
+    }
+
+    // Fails unless the folder has the copy put right.
+    fn check_whole(&self, alloc: Global, folder: &MemoryFolder) -> Result<()> {
+        if self.word_of(alloc, folder)? != "the new copy" {
+            bail!("the old copy is left")
+        }
+        check_found(alloc, folder)?;
+        check_lost(alloc, folder)
+    }
+
+    // Completes what was left, and puts it right again; returns which copy there was, and whether work was left.
+    fn complete(
+        &self,
+        alloc: Global,
+        mut folder: MemoryFolder,
+    ) -> Result<(&'static str, &'static str)> {
+        let word = self.word_of(alloc, &folder)?;
+        let more = match resume(alloc, &mut folder, true)? {
+            Resumed::Nothing => "",
+            Resumed::Completed => ", with work left",
+            Resumed::Cleared => bail!("there was no copy"),
+        };
+        let mut folder = left(alloc, folder);
+        let mut source = Known::new(&TEXTS);
+        mend(alloc, &mut folder, &mut source, &what(&self.repo))?;
+        self.check_whole(alloc, &memory(folder))?;
+        Ok((word, more))
+    }
+}
+
+/// Stops the mending after each number of steps, and completes it.
+pub(crate) fn try_stopped_mends<R: Print + AllocGlobal>(rt: &R, all: &Falsehood) -> Result<()> {
+    let alloc = rt.alloc();
+    let whole = all.stopped(alloc, u64::MAX)?;
+    all.check_whole(alloc, &whole)?;
+    let steps = (whole.steps().len() as u64).saturating_sub(all.made);
+    println!(rt; "a mend takes {steps} steps")?;
+    let mut last = ("", "");
+    for limit in 0..steps + 1 {
+        let words = all.complete(alloc, all.stopped(alloc, limit)?)?;
+        if words != last {
+            println!(rt; "stopped after {limit}: {}{}", words.0, words.1)?;
+            last = words;
+        }
+    }
+    Ok(())
+}
