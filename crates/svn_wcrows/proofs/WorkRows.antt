@@ -1,5 +1,6 @@
 -- Rows of the work queue, one after another.
-use Rattle.std.proofs.Common.{◌≡◌, ℕ, ◌+◌, ◌<◌, List, [], ◌∷◌, ◌++◌, map, length, take, get_or, Option, Some, All, refl, sym, ap, ap₂, ◌∙◌, arith}
+use Rattle.std.proofs.Common.{◌≡◌, ℕ, zero, suc, ◌+◌, ◌<◌, List, [], ◌∷◌, ◌++◌, map, length, take, get_or, Option, Some, All, refl, sym, ap, ap₂, ◌∙◌, arith, add-one}
+use Rattle.std.specs.List.{range_with_len}
 use Rattle.std.proofs.lemmas.List.{map-append, map_more}
 use Rattle.std.proofs.lemmas.List.Elements.{All-head, All-tail}
 use Rattle.std.proofs.lemmas.Option.{same_Some}
@@ -33,3 +34,14 @@ lists_same (w ∷ ws) (v ∷ vs) h k e =
 
 pub work_read : WorkIsReadBack
 work_read rows items others h k first second = lists_same items others h k (sym first ∙ second)
+
+-- numbers from one on, and the next
+from_here : (a n j : ℕ) → a + n ≡ j → range_with_len a (suc n) ≡ range_with_len a n ++ j ∷ []
+from_here a zero j e = let same : a ≡ j = omega (arith, e) in ap (λ (k : ℕ). k ∷ []) same
+from_here a (suc n) j e = ap (λ (l : List ℕ). a ∷ l) (from_here (a + 1) n j (omega (arith, e)))
+
+pub number_more : {X : Type 0} (number : X → ℕ) (xs : List X) (x : X) (a n : ℕ) → map number xs ≡ range_with_len a n → number x ≡ a + n
+    → map number (xs ++ x ∷ []) ≡ range_with_len a (n + 1)
+number_more number xs x a n before is =
+    map-append number xs (x ∷ []) ∙ ap (λ (l : List ℕ). l ++ number x ∷ []) before ∙ sym (from_here a n (number x) (sym is))
+    ∙ ap (range_with_len a) (sym (add-one n))

@@ -47,11 +47,11 @@ NodesAreReadBack =
     → base_of pristines (node_row owner path node) ≡ Ok node
 
 -- the row is that of the node at the path
-pub record IsNodeRow (owner : Owner) (pristines : Sizes) (row : TableRow) (path : Path) (node : BaseNode) : Type 0 where
-  pub columns : row_of row.bytes ≡ Ok (node_row owner path node)
-  pub path : IsPath path
-  pub node : IsRowNode node
-  pub text : HasText pristines node
+pub record IsNodeRow (owner : Owner) (pristines : Sizes) (row : TableRow) (p : Path) (n : BaseNode) : Type 0 where
+  pub columns : row_of row.bytes ≡ Ok (node_row owner p n)
+  pub path : IsPath p
+  pub node : IsRowNode n
+  pub text : HasText pristines n
 
 abbrev pub AreNodeRows : Owner → Sizes → List TableRow → List (Path × BaseNode) → Type 0
 AreNodeRows owner pristines [] [] = Unit {0}
