@@ -1,5 +1,5 @@
 -- Lists of the work queue: what was written is taken apart as its item, and as no other.
-use Rattle.std.proofs.Common.{◌≡◌, ℕ, ◌+◌, ◌*◌, ◌^◌, ◌<◌, ◌≤◌, Bool, true, false, cond, List, [], ◌∷◌, ◌++◌, length, Option, Some, None, option_and_then, Ok, All, refl, sym, ap, ◌∙◌, arith, decimal, append_assoc, length-append}
+use Rattle.std.proofs.Common.{◌≡◌, ℕ, ◌*◌, ◌^◌, ◌<◌, ◌≤◌, Bool, true, false, cond, List, [], ◌∷◌, ◌++◌, length, Option, Some, None, option_and_then, All, refl, sym, ap, ◌∙◌, arith, decimal, append_assoc, length-append}
 use Rattle.std.specs.Prelude.{bytes_eq, codes}
 use Rattle.std.proofs.Math.Seq.{take-append_seam, drop-append_seam}
 use Rattle.std.proofs.lemmas.Bool.{le-leb}
@@ -9,7 +9,7 @@ use Rattle.svn_lists.proofs.Equality.{same_bytes, bytes_eq-same}
 use Rattle.svn_lists.proofs.Options.{and_then_parts}
 use Rattle.svn_types.specs.Names.{Path, IsName}
 use Rattle.svn_types.specs.PathTexts.{path_text}
-use Rattle.svn_digits.specs.Numbers.{is_digit, number_of}
+use Rattle.svn_digits.specs.Numbers.{is_digit}
 use Rattle.svn_digits.proofs.Decimals.{spelled, number_of_decimal}
 use Rattle.svn_digits.proofs.PathTexts.{below}
 use Rattle.law_dump.specs.Laws.{IsPath}

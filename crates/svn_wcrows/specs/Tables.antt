@@ -1,8 +1,7 @@
 -- What is read of a database: all rows of its tables.
 --     tables_of bytes      the rows of the database that the bytes are, or the first fault
-use Rattle.std.specs.Prelude.{ℕ, Bool, false, not, ◌&&◌, ◌||◌, List, [], ◌∷◌, bytes_eq, codes, Option, Some, None, Result, Ok, Err, if◌then◌else◌}
+use Rattle.std.specs.Prelude.{ℕ, Bool, false, not, ◌&&◌, ◌||◌, List, [], ◌∷◌, codes, Option, Some, None, Result, Ok, Err, if◌then◌else◌}
 use Rattle.sqlite_value.specs.declared.value.Value.{Value}
-use Rattle.sqlite_value.specs.declared.value.Value.TheVariants.{Text}
 use Rattle.svn_wcdb.specs.declared.fault.Reason.{Reason}
 use Rattle.svn_wcdb.specs.declared.fault.TableName.TheVariants as tables
 use Rattle.svn_wcdb.specs.declared.table.TableRow.{TableRow}

@@ -1,7 +1,7 @@
--- The lists of the work queue, taken apart between spaces.
+-- The lists of the work queue, taken apart between spaces, as the code reads them. `Work` has what they stand for.
 --     atom_after bytes      the atom after the first space, and what follows it
 --     item_in bytes      the item whose list the bytes are
-use Rattle.std.specs.Prelude.{ℕ, ◌+◌, List, take, drop, length, nat_eq, nat_le, bytes_eq, codes, Option, Some, None, option_and_then, Result, Ok, Err, if◌then◌else◌}
+use Rattle.std.specs.Prelude.{ℕ, ◌+◌, List, take, drop, length, nat_eq, nat_le, bytes_eq, codes, Option, Some, None, option_and_then, if◌then◌else◌}
 use Rattle.std.specs.List.{position}
 use Rattle.svn_digits.specs.Numbers.{number_of}
 use Rattle.svn_types.specs.Names.{Path}
@@ -34,7 +34,7 @@ item_named word path =
     else if bytes_eq word (codes "dir-remove") then Some (RemoveDirectory path)
     else None
 
--- an item is in other words too, which are none that this crate writes
+-- the item, where the bytes are the list that this crate writes of it
 abbrev pub if_same : List ℕ → Work → Option Work
 if_same bytes work = if bytes_eq (work_bytes work) bytes then Some work else None
 

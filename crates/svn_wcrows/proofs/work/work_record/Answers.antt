@@ -1,4 +1,3 @@
-use Rattle.std.proofs.Common.{refl}
 use Rattle.std.proofs.lemmas.Result.{err_from_is_err_and}
 use Rattle.svn_image.specs.declared.fault.ImageFault.TheVariants as image
 use Rattle.svn_wcrows.proofs.work.work_record.Goals as goal
