@@ -16,7 +16,7 @@ use Rattle.svn_wcrows.specs.Skels.{atom_bytes, pair_bytes, props_bytes}
 
 -- ---- an atom
 
-atom_parts : (atom rest : List ℕ) → atom_bytes atom ++ rest ≡ 32 ∷ (decimal (length atom) ++ 32 ∷ (atom ++ rest))
+pub atom_parts : (atom rest : List ℕ) → atom_bytes atom ++ rest ≡ 32 ∷ (decimal (length atom) ++ 32 ∷ (atom ++ rest))
 atom_parts atom rest =
     let front = 32 ∷ decimal (length atom) in
     append_assoc (front ++ 32 ∷ []) atom rest ∙ append_assoc front (32 ∷ []) (atom ++ rest)

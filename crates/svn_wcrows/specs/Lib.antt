@@ -1,6 +1,11 @@
 pub mod Skels
+pub mod Values
+pub mod Reading
 pub mod Databases
+pub mod Tables
 pub mod Faults
 pub mod Copies
 pub mod Rows
+pub mod Work
+pub mod WorkAtoms
 pub mod Laws

@@ -47,6 +47,10 @@ impl From<ImageFault> for RowsFault {
 }
 
 impl From<WcdbFault> for RowsFault {
+    ghost from_gives = { λ fault e. e ≡ of_wcdb fault };
+
+    ghost use Rattle.svn_wcrows.specs.Faults.{of_wcdb};
+
     fn from(fault: WcdbFault) -> RowsFault {
         match fault {
             WcdbFault::Memory => RowsFault::Memory,

@@ -9,19 +9,24 @@
 //!
 //! | Files, lowest first | What they do | Definitions in `specs/` |
 //! |---|---|---|
-//! | `fault` | why rows aren't written or read | `Faults` |
+//! | `fault` | why rows aren't written or read | `Faults`, `Reading` |
+//! | `lawful` | what the types of paths and properties keep | |
 //! | `skel`, `properties`, `inherited` | lists of atoms (skels), properties, properties from above | `Skels` |
-//! | `paths`, `values` | paths as columns have them; the columns of a row | |
+//! | `paths`, `values` | paths as columns have them; the columns of a row | `Values` |
 //! | `node_row`, `small_rows` | a row of NODES, of a base node; rows of the smaller tables | `Rows` |
-//! | `work` | what is left to do on disk, as items of the work queue | |
-//! | `tables`, `read`, `counts` | all tables; read from a database; how many nodes have each text | `Databases` |
+//! | `work` | what is left to do on disk, as items of the work queue | `Work`, `WorkAtoms` |
+//! | `tables`, `read`, `counts` | all tables; read from a database; how many nodes have each text | `Databases`, `Tables` |
 //! | `schema`, `indexes`, `database` | the schema's texts; the records of indexes; the file | `Databases` |
 //! | `copy` | the file, once its nodes were read back | `Copies` |
+//! | `laws` | what is written is read back | `Laws` |
 //!
-//! Promises: a node's record has the columns that its base node is made of ([`node_record`], by `node_row`). A database that is returned has each
-//! table with its rows, which were read from the bytes ([`write_tables`], by `AreWritten`), and stands for a working copy with the nodes that were named
-//! ([`write_copy`], by `IsCopyOf`). Not proved: that a base tree is read back from `node_row` alone, so that the comparison never fails; what indexes have;
-//! what [`read_tables`] and [`read_work`] return. What tests compare with SQLite and with Subversion is in `examples/subversion/checkouts.sh`.
+//! Promises: a node's record has the columns that its base node is made of ([`node_record`], by `node_row`), which are read back as that node, at its path
+//! ([`nodes_are_read_back`], [`rows_are_read_back`]). A database that is returned has each table with its rows, which were read from the bytes
+//! ([`write_tables`], by `AreWritten`), and stands for a working copy with the nodes that were named ([`write_copy`], by `IsCopyOf`). Of a database exactly
+//! its rows are read, or the first fault is returned ([`read_tables`], by `tables_of`); of rows of work the items that they are, and none where one is a
+//! client's ([`read_work`], by `AreRead`; [`work_is_read_back`]). Not proved: that a whole base tree is read back, so that the comparison never fails; what
+//! indexes and the smaller tables have. What tests compare with SQLite and with Subversion is in `examples/subversion/checkouts.sh` and
+//! `stored_databases.sh` beside it.
 #![tactic(auto)]
 
 mod copy;
@@ -30,6 +35,7 @@ mod database;
 mod fault;
 mod indexes;
 mod inherited;
+mod lawful;
 mod laws;
 mod node_row;
 mod paths;
@@ -46,11 +52,13 @@ pub use copy::write_copy;
 pub use database::{Numbers, numbers_of, write_tables};
 pub use fault::RowsFault;
 pub use inherited::Inherited;
-pub use laws::properties_are_read_back;
+pub use laws::{
+    nodes_are_read_back, properties_are_read_back, rows_are_read_back, work_is_read_back,
+};
 pub use node_row::{LastChange, Owner, Recorded, node_record};
 pub use properties::push_props;
 pub use read::read_tables;
 pub use small_rows::{lock_row, pristine_record};
 pub use tables::{Table, Tables};
 pub use values::{is_null, number_at, text_at};
-pub use work::{Work, read_work, work_rows};
+pub use work::{Work, read_work, work_is_lawful, work_rows};

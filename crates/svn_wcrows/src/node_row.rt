@@ -1,11 +1,15 @@
 //! Rows of NODES, made of base nodes.
-ghost use Rattle.std.specs.Prelude.{◌≡◌, pos, Ok, IfOk, IfSome, option_map};
+ghost use Rattle.std.specs.Prelude.{◌≡◌, ◌<◌, ◌^◌, length, pos, Ok, IfOk, OnOk, IfSome, OnSome, option_map};
 ghost use Rattle.sqlite_value.specs.Value.{owned};
 ghost use Rattle.sqlite_value.specs.declared.value.Value.TheVariants as stored;
+ghost use Rattle.law_dump.specs.Laws.{IsPath};
 ghost use Rattle.svn_wcdb.specs.Nodes.{row_of};
+ghost use Rattle.svn_wcrows.specs.Laws.{IsRowNode};
+ghost use Rattle.svn_wcrows.specs.Skels.{props_bytes};
 ghost use Rattle.svn_wcrows.specs.Rows.{text_value, blob_value, props_column, parent_column, presence_of, word_of, depth_of, AreColumnsOf, row_with, node_row};
 
 use crate::fault::RowsFault;
+use crate::lawful::{path_is_lawful, props_are_lawful};
 use crate::paths::path_column;
 use crate::properties::push_props;
 use sqlite_value::value::ValueRef;
@@ -156,7 +160,8 @@ fn depth_of(kind: Kind) -> ValueRef<'static>
 
 // A node has a list of its properties, or NULL where it has none.
 fn props_of(alloc: Global, props: &Props) -> Result<Option<Vec<u8>>, AllocError>
-    ensures { IfOk result (λ column. option_map (λ b. b.items) column ≡ props_column props.now) }
+    ensures column { IfOk result (λ column. option_map (λ b. b.items) column ≡ props_column props.now) }
+    ensures fits { OnOk result (length (props_bytes props.now) < 2 ^ 64) }
 {
     if props.is_empty() {
         return Ok(None);
@@ -243,7 +248,8 @@ fn directory_columns(
     node: &BaseNode,
     recorded: &Recorded<'_>,
 ) -> Result<Option<Columns>, AllocError>
-    ensures { IfOk result (λ found. IfSome found (AreColumnsOf path.now node.now)) }
+    ensures columns { IfOk result (λ found. IfSome found (AreColumnsOf path.now node.now)) }
+    ensures node { IfOk result (λ found. OnSome found (IsRowNode node.now)) }
 {
     let BaseNode::Dir {
         rev,
@@ -254,6 +260,8 @@ fn directory_columns(
     else {
         return Ok(None);
     };
+    path_is_lawful(repos_path);
+    props_are_lawful(props);
     Ok(Some(Columns {
         path: path_column(alloc, path)?,
         parent: parent_of(alloc, path)?,
@@ -272,7 +280,8 @@ fn file_columns(
     node: &BaseNode,
     recorded: &Recorded<'_>,
 ) -> Result<Option<Columns>, AllocError>
-    ensures { IfOk result (λ found. IfSome found (AreColumnsOf path.now node.now)) }
+    ensures columns { IfOk result (λ found. IfSome found (AreColumnsOf path.now node.now)) }
+    ensures node { IfOk result (λ found. OnSome found (IsRowNode node.now)) }
 {
     let BaseNode::File {
         rev,
@@ -283,6 +292,8 @@ fn file_columns(
     else {
         return Ok(None);
     };
+    path_is_lawful(repos_path);
+    props_are_lawful(props);
     Ok(Some(Columns {
         path: path_column(alloc, path)?,
         parent: parent_of(alloc, path)?,
@@ -392,7 +403,8 @@ fn record_of(alloc: Global, owner: Owner, columns: &Columns) -> Result<Text, Row
     Ok(record(alloc, &values)?)
 }
 
-/// The record of a node of the base tree, at a path of the working copy. NotPresent, TooLarge, Image and Memory.
+/// The record of a node of the base tree, at a path of the working copy. It is read back as that node ([`nodes_are_read_back`](crate::nodes_are_read_back)).
+/// NotPresent, TooLarge, Image and Memory.
 pub fn node_record(
     alloc: Global,
     owner: Owner,
@@ -400,8 +412,11 @@ pub fn node_record(
     node: &BaseNode,
     recorded: &Recorded<'_>,
 ) -> Result<Text, RowsFault>
-    ensures { IfOk result (λ bytes. row_of bytes ≡ Ok (node_row owner path.now node.now)) }
+    ensures row { IfOk result (λ bytes. row_of bytes ≡ Ok (node_row owner path.now node.now)) }
+    ensures path { OnOk result (IsPath path.now) }
+    ensures node { OnOk result (IsRowNode node.now) }
 {
+    path_is_lawful(path);
     if let Some(columns) = directory_columns(alloc, path, node, recorded)? {
         return record_of(alloc, owner, &columns);
     }
