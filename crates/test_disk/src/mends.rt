@@ -6,7 +6,7 @@ use crate::opaque::Opaque;
 use crate::stops::look;
 use anyhow::{Result, bail};
 use std::alloc::Global;
-use svn_disk_update::{Mend, Resumed, mend, resume};
+use svn_disk_update::{Remedy, Resumed, mend, resume};
 use svn_folder::{Entry, MemoryFolder, Mode, SyncedFolder};
 use svn_repo::Repo;
 use svn_types::{Rev, Text};
@@ -33,8 +33,8 @@ fn copy_of(alloc: Global, repo: &Repo) -> Result<WorkingCopy> {
 }
 
 /// By what a copy is put right.
-pub(crate) fn what(repo: &Repo) -> Mend<'_> {
-    Mend {
+pub(crate) fn what(repo: &Repo) -> Remedy<'_> {
+    Remedy {
         repo,
         uuid: UUID,
         time: 1_700_000_000_000_000,
@@ -94,7 +94,7 @@ fn check_lost(alloc: Global, folder: &MemoryFolder) -> Result<()> {
 }
 
 /// The folder that a run has left, as one of which nothing is known.
-pub(crate) fn left(alloc: Global, folder: MemoryFolder) -> Left {
+pub(crate) fn opened(alloc: Global, folder: MemoryFolder) -> Left {
     SyncedFolder::new(alloc, Opaque(folder))
 }
 
@@ -164,7 +164,7 @@ impl Falsehood {
             Resumed::Completed => ", with work left",
             Resumed::Cleared => bail!("there was no copy"),
         };
-        let mut folder = left(alloc, folder);
+        let mut folder = opened(alloc, folder);
         let mut source = Known::new(&TEXTS);
         mend(alloc, &mut folder, &mut source, &what(&self.repo))?;
         self.check_whole(alloc, &memory(folder))?;
