@@ -58,14 +58,13 @@ fn split_name(keyword: &[u8]) -> (&[u8], &[u8]) {
 
 // Whether what is after a name is a value, or none.
 fn is_value(value: &[u8]) -> bool {
-    value == b":".as_slice() || (value.len() >= 2 && value.starts_with(b": ") && value.ends_with(b" "))
+    value == b":".as_slice()
+        || (value.len() >= 2 && value.starts_with(b": ") && value.ends_with(b" "))
 }
 
 // Whether what is after a name is a value of fixed length.
 fn is_fixed(value: &[u8]) -> bool {
-    value.len() > 4
-        && value.starts_with(b":: ")
-        && (value.ends_with(b" ") || value.ends_with(b"#"))
+    value.len() > 4 && value.starts_with(b":: ") && (value.ends_with(b" ") || value.ends_with(b"#"))
 }
 
 // Writes what is between the signs of a keyword without its value, if it is a keyword.

@@ -86,7 +86,10 @@ fn try_others<R: Print + AllocGlobal>(rt: &R, all: &Falsehood) -> Result<()> {
     };
     println!(rt; "mend by another: {}", said(alloc, &mut folder, &other)?)?;
     println!(rt; "mend: {}", said(alloc, &mut folder, &what(&all.repo))?)?;
-    println!(rt; "mend again: {}", said(alloc, &mut folder, &what(&all.repo))?)?;
+    println!(rt;
+        "mend again: {}",
+        said(alloc, &mut folder, &what(&all.repo))?
+    )?;
     Ok(())
 }
 
