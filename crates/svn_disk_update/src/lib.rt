@@ -32,7 +32,7 @@
 //! | `on_disk`, `local`, `refusals` | what is on disk; local changes in the way; all that is in the way |
 //! | `task`, `known`, `doing`, `database_image` | the work that is left; the texts by which a file is nobody's edit; the work, done; the databases that follow |
 //! | `rows`, `temporary`, `bring` | rows of a changed copy; what an earlier run left; a copy on disk, brought to another state |
-//! | `mended`, `mend` | what of a copy is untrue, put right; the same on disk |
+//! | `truth`, `mending` | what of a copy is untrue, put right; the same on disk |
 //! | `laws` | what the crash theorem rests on |
 //!
 //! Definitions, in the order of reading: `specs/Goes.antt` (which steps a call takes), `Places.antt` (where they are), `Laws.antt`, `Crashes.antt` (what a
@@ -62,8 +62,7 @@ mod known;
 mod laws;
 mod layout;
 mod local;
-mod mend;
-mod mended;
+mod mending;
 mod node_file;
 mod normal;
 mod on_disk;
@@ -78,6 +77,7 @@ mod steps;
 mod task;
 mod temporary;
 mod texts;
+mod truth;
 mod wanted;
 
 pub use checkout::{Checkout, check_out, refuse_check_out, refuse_reserved};
@@ -85,7 +85,7 @@ pub use completion::{Resumed, resume};
 pub use fault::{DiskFault, OtherRepository};
 pub use inherited::inherited_props;
 pub use laws::a_directory_is_renamed_at_once;
-pub use mend::{Remedy, mend, mend_changes};
-pub use mended::mended;
+pub use mending::{Remedy, mend, mend_changes};
 pub use plan::{Change, PathChange};
 pub use source::{Source, TextSums};
+pub use truth::mended;

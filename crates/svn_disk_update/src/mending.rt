@@ -5,7 +5,7 @@ use crate::checkout::refuse_reserved;
 use crate::existing::Existing;
 use crate::fault::{DiskFault, OtherRepository};
 use crate::layout::Admin;
-use crate::mended::mended;
+use crate::truth::mended;
 use crate::plan::{PathChange, Plan};
 use crate::refusals::refuse;
 use crate::source::Source;
