@@ -87,8 +87,8 @@ mends() {
 }
 
 # the six kinds of falsehood: each function changes the work copy, first as it will be lost, then as it is
-text_lost() { echo lost >work/f; }
-text_again() { echo again >work/f; }
+text_lost() { echo lost >work/f; echo '$Id$ lost' >work/id; }
+text_again() { echo again >work/f; echo '$Id$ again' >work/id; }
 properties_lost() { svn -q propset p lost work/f work/d; svn -q propset svn:executable yes work/d/g; }
 properties_again() { svn -q propset p again work/f work/d; svn -q propset svn:needs-lock yes work/d/e/h; }
 missing_lost() { echo lost >work/f; }
@@ -231,8 +231,8 @@ refuses() {
     same "$what: the copy" before after
 }
 begin
-text_lost && mkdir work/x && echo y >work/x/y && echo '$Id$ lost' >work/id && svn -q add work/x && svn -q rm work/gone && svn -q propset p lost work/d/e && lose || wrongly "THE COPY ISN'T MADE"
-text_again && echo x >work/x && mkdir -p work/new/deep && echo z >work/new/deep/z && echo '$Id$ again' >work/id && svn -q add work/x work/new && svn -q propset p again work/d/e && again || wrongly "THE COPY ISN'T MADE"
+text_lost && mkdir work/x && echo y >work/x/y && svn -q add work/x && svn -q rm work/gone && svn -q propset p lost work/d/e && lose || wrongly "THE COPY ISN'T MADE"
+text_again && echo x >work/x && mkdir -p work/new/deep && echo z >work/new/deep/z && svn -q add work/x work/new && svn -q propset p again work/d/e && again || wrongly "THE COPY ISN'T MADE"
 refuses 'an edited file' 'f: changed on disk' 'echo mine >>f'
 refuses 'an edited file with keywords' 'id: changed on disk' 'echo mine >>id'
 refuses 'a file of its own' 'x/mine: something is in the way' 'echo mine >x/mine'

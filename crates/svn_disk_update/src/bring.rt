@@ -76,18 +76,23 @@ impl Bringing<'_> {
         let Some((name, props)) = file_of(node) else {
             return Ok(());
         };
-        let size =
-            keeping
-                .texts
-                .keep_whole(folder, source, self.admin, &mut keeping.rows, (path, name))?;
+        let rows = &mut keeping.rows;
+        let size = keeping
+            .texts
+            .keep_whole(folder, source, self.admin, rows, (path, name))?;
         if !has_text(self.alloc, folder, self.admin, name)? {
             return Err(DiskFault::NoText(path.clone()?));
         }
         let time = Some(self.wanted.time);
         let what = Prepared { name, props, time };
         let is_locked = self.existing.has_lock(node);
-        let is_file =
-            prepare_unless_locked(self.alloc, folder, self.admin, number, (&what, is_locked))?;
+        let is_file = prepare_unless_locked(
+            self.alloc,
+            folder,
+            self.admin,
+            number,
+            (&what, is_locked),
+        )?;
         let size = if is_file { Some(size) } else { None };
         keeping.sizes.insert(path.clone()?, size)?;
         Ok(())
@@ -118,21 +123,22 @@ impl Bringing<'_> {
         tables: Tables,
         keeping: Keeping,
     ) -> Result<Images, DiskFault> {
+        let Keeping { rows, sizes, .. } = keeping;
         let maker = RowMaker {
             alloc: self.alloc,
             source,
             existing: self.existing,
             wanted: self.wanted,
-            sizes: &keeping.sizes,
+            sizes: &sizes,
         };
-        let made = maker.rows()?;
+        let (node_rows, nodes) = maker.rows()?.into_parts();
         let mut tables = tables;
-        tables.nodes = made.rows;
-        tables.pristine = keeping.rows;
+        tables.nodes = node_rows;
+        tables.pristine = rows;
         tables.count_texts(self.alloc)?;
         Ok(Images {
             tables,
-            nodes: made.nodes,
+            nodes,
             owner: self.existing.owner,
             change_counter: self.existing.numbers.change_counter,
         })

@@ -92,7 +92,11 @@ pub(crate) fn replace_database<F: Folder>(
     let database = admin.database(alloc)?;
     let above = admin.folder(alloc)?;
     admin.remove_if_any(alloc, folder, &new)?;
-    admin.make(folder, new.clone()?, Entry::File(Text::new(image), Mode::PLAIN))?;
+    admin.make(
+        folder,
+        new.clone()?,
+        Entry::File(Text::new(image), Mode::PLAIN),
+    )?;
     if sync {
         take(folder, Step::SyncFile(new.clone()?))?;
     }

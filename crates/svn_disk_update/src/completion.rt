@@ -240,12 +240,14 @@ fn complete<F: Folder>(
         return Err(DiskFault::Foreign);
     };
     let known = KnownTexts::of(alloc, &existing.tables.pristine)?;
+    let gone = task.gone(alloc)?;
+    let files = task.replacing_files(alloc)?;
     let looking = Looking {
         alloc,
         existing: &existing,
         known: &known,
-        gone: &task.gone(alloc)?,
-        files: &task.replacing_files(alloc)?,
+        gone: &gone,
+        files: &files,
     };
     looking.refuse_all(folder, &admin, &task.work)?;
     prepare_all_again(alloc, folder, &admin, &existing, task.makings(), sync)?;
@@ -267,11 +269,7 @@ fn complete<F: Folder>(
 /// Refused before anything is changed: NoCopy; Foreign where the work is a client's, or the database was changed since, which `svn cleanup` is for;
 /// NoText where a pristine text isn't the one that its stand-in names; InTheWay at the first path where something is that isn't the copy's. Then Folder,
 /// Rows, Path and Memory. It may be cut off, and done again.
-pub fn resume<F: Folder>(
-    alloc: Global,
-    folder: &mut F,
-    sync: bool,
-) -> Result<Resumed, DiskFault> {
+pub fn resume<F: Folder>(alloc: Global, folder: &mut F, sync: bool) -> Result<Resumed, DiskFault> {
     match Existing::read(alloc, folder) {
         Ok(existing) => {
             if !existing.is_busy() {

@@ -69,11 +69,7 @@ impl Doing<'_> {
     }
 
     // Removes a directory, if one is there. With something in it that isn't the copy's it stays.
-    fn remove_directory<F: Folder>(
-        &self,
-        folder: &mut F,
-        path: &RelPath,
-    ) -> Result<(), DiskFault> {
+    fn remove_directory<F: Folder>(&self, folder: &mut F, path: &RelPath) -> Result<(), DiskFault> {
         match find(self.alloc, folder, path)? {
             Found::Directory if is_empty(self.alloc, folder, path)? => {
                 take(folder, Step::RemoveDirectory(path.clone()?))
@@ -163,13 +159,14 @@ impl Doing<'_> {
         folder: &mut F,
         databases: Databases,
     ) -> Result<(), DiskFault> {
+        let Databases { middle, end } = databases;
         self.remove_all(folder)?;
-        if let Some(middle) = databases.middle {
+        if let Some(middle) = middle {
             replace_database(self.alloc, folder, self.admin, middle, self.sync)?;
         }
         self.make_directories(folder)?;
         self.place_files(folder)?;
         self.sync_above(folder, self.task.makings())?;
-        replace_database(self.alloc, folder, self.admin, databases.end, self.sync)
+        replace_database(self.alloc, folder, self.admin, end, self.sync)
     }
 }

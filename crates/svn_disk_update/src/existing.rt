@@ -90,9 +90,7 @@ fn locked_in(alloc: Global, rows: &[TableRow]) -> Result<BTreeSet<RelPath>, Disk
 
 // The number of the repository of the copy's root.
 fn repository_of(rows: &[TableRow]) -> Option<u64> {
-    let root = rows
-        .iter()
-        .find(|row| is_base(row) && text_at(row, PATH) == Some(b"".as_slice()))?;
+    let root = rows.iter().find(|row| is_base(row) && text_at(row, PATH) == Some(b"".as_slice()))?;
     number_at(root, REPOSITORY)
 }
 

@@ -64,9 +64,11 @@ impl KnownTexts {
         folder: &F,
         path: &RelPath,
     ) -> Result<bool, DiskFault> {
-        match readings(alloc, folder, path)? {
-            Some(texts) => Ok(texts.iter().any(|text| self.has(text.as_slice()))),
-            None => Ok(false),
+        for text in &readings(alloc, folder, path)? {
+            if self.has(text.as_slice()) {
+                return Ok(true);
+            }
         }
+        Ok(false)
     }
 }

@@ -11,17 +11,28 @@
 //! another database without a queue takes the place of the first. Before the rename there is no copy, from then on there is the whole one: [`resume`]
 //! completes it, or `svn cleanup`. A [`Source`] gives the texts, piece by piece, and each node's last change.
 //!
+//! [`mend`] brings a copy that is on disk to another state, the one that [`mended`] says, in the way in which any other is reached (`bring`): what differs is
+//! planned, what is in the way is refused, texts and files are made under names of their own, and a database with the new rows and what is left to do takes the
+//! place of the old one, by one rename. Before it the copy is the old one, from then on the new one. Then what goes is removed and what comes is made, as
+//! [`resume`] and `svn cleanup` do it too, and a database with nothing left follows. Rows of nodes that stay are kept byte by byte, and so are those of all other
+//! tables but the texts' and the work's.
+//!
 //! | Files, lowest first | What they do |
 //! |---|---|
 //! | `fault` | why a copy isn't brought to disk |
 //! | `layout`, `inside` | where a copy keeps what it knows; steps in that folder |
 //! | `steps`, `settle` | steps of a folder that belong together; what was done, brought to the disk |
-//! | `node_file` | what a file is on disk, by its text and properties |
+//! | `normal`, `node_file` | texts without values of keywords, and with other line ends; what a file is on disk, by its text and properties |
 //! | `source`, `texts`, `prepared`, `read_back` | where texts come from; pristine texts; files under names of their own; what was written, read back |
 //! | `inherited` | the properties that a copy's root inherits |
 //! | `carry` | the work of a new copy, done |
 //! | `checkout` | a new copy |
 //! | `existing`, `clearing`, `completion` | one that is on disk; what was cut off before there was one; what was cut off, completed |
+//! | `above`, `plan`, `wanted` | the directories above a path; what becomes of each path between two copies; what a copy is brought to |
+//! | `on_disk`, `local`, `refusals` | what is on disk; local changes in the way; all that is in the way |
+//! | `task`, `known`, `doing`, `database_image` | the work that is left; the texts by which a file is nobody's edit; the work, done; the databases that follow |
+//! | `rows`, `temporary`, `bring` | rows of a changed copy; what an earlier run left; a copy on disk, brought to another state |
+//! | `truth`, `mending` | what of a copy is untrue, put right; the same on disk |
 //! | `laws` | what the crash theorem rests on |
 //!
 //! Definitions, in the order of reading: `specs/Goes.antt` (which steps a call takes), `Places.antt` (where they are), `Laws.antt`, `Crashes.antt` (what a
@@ -31,7 +42,8 @@
 //! are read from them. Until the administrative folder of a checkout gets its name, each step is inside of the folder `.svn-new`, or is a sync
 //! (`is_inside`), and a crash leaves no copy (`IsNoCopy`). It gets its name only once all is on the disk. A crash then leaves nothing at that name, or all
 //! that was at the old one (`LeavesEither`). The database is replaced by steps inside of the administrative folder alone. What a crash leaves while the
-//! work of the new copy is done is tested by `test_disk` at each step, and not yet proved.
+//! work of the new copy is done is tested by `test_disk` at each step, and not yet proved. The copy that [`mended`] returns is true of the repository
+//! (`IsTrueOf`); what `mend` then leaves on disk, and what it refuses, is tested.
 #![tactic(auto)]
 
 mod above;
@@ -50,8 +62,7 @@ mod known;
 mod laws;
 mod layout;
 mod local;
-mod mend;
-mod mended;
+mod mending;
 mod node_file;
 mod normal;
 mod on_disk;
@@ -66,6 +77,7 @@ mod steps;
 mod task;
 mod temporary;
 mod texts;
+mod truth;
 mod wanted;
 
 pub use checkout::{Checkout, check_out, refuse_check_out, refuse_reserved};
@@ -73,7 +85,7 @@ pub use completion::{Resumed, resume};
 pub use fault::{DiskFault, OtherRepository};
 pub use inherited::inherited_props;
 pub use laws::a_directory_is_renamed_at_once;
-pub use mend::{Mend, mend, mend_changes};
-pub use mended::mended;
+pub use mending::{Remedy, mend, mend_changes};
 pub use plan::{Change, PathChange};
 pub use source::{Source, TextSums};
+pub use truth::mended;

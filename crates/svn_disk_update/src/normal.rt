@@ -25,25 +25,53 @@ pub(crate) enum Keywords<'a> {
     All,
 }
 
-// Whether a word of `svn:keywords`, where letters may be large or small, names the same keyword as a name.
-fn names(word: &[u8], name: &[u8]) -> bool {
+// Whether one of these is a name.
+fn has_name(row: &[&str], name: &[u8]) -> bool {
+    for it in row {
+        if it.as_bytes() == name {
+            return true;
+        }
+    }
+    false
+}
+
+// Whether one of these is a word of `svn:keywords`, where letters may be large or small.
+fn has_word(row: &[&str], word: &[u8]) -> bool {
+    for it in row {
+        if it.as_bytes().eq_ignore_ascii_case(word) {
+            return true;
+        }
+    }
+    false
+}
+
+// Whether a word of `svn:keywords` names the same keyword as a name.
+fn is_named_by(word: &[u8], name: &[u8]) -> bool {
     if let Some((own, _)) = split_once(word, b'=') {
         return own == name;
     }
-    NAMES.iter().any(|row| {
-        row.iter().any(|it| it.as_bytes() == name)
-            && row
-                .iter()
-                .any(|it| it.as_bytes().eq_ignore_ascii_case(word))
-    })
+    for row in &NAMES {
+        if has_name(row, name) && has_word(row, word) {
+            return true;
+        }
+    }
+    false
+}
+
+// Whether one of the words names the same keyword as a name.
+fn is_named(words: &[u8], name: &[u8]) -> bool {
+    for word in words.split(|sign| sign.is_ascii_whitespace()) {
+        if !word.is_empty() && is_named_by(word, name) {
+            return true;
+        }
+    }
+    false
 }
 
 // Whether a name is that of a keyword which is expanded.
 fn is_keyword(keywords: Keywords<'_>, name: &[u8]) -> bool {
     match keywords {
-        Keywords::Named(words) => words
-            .split(|sign| sign.is_ascii_whitespace())
-            .any(|word| !word.is_empty() && names(word, name)),
+        Keywords::Named(words) => is_named(words, name),
         Keywords::All => !name.is_empty(),
     }
 }
@@ -51,21 +79,23 @@ fn is_keyword(keywords: Keywords<'_>, name: &[u8]) -> bool {
 // The name of a keyword, and what is after it.
 fn split_name(keyword: &[u8]) -> (&[u8], &[u8]) {
     match split_once(keyword, b':') {
-        Some((name, _)) => keyword.split_at(name.len().min(keyword.len())),
+        Some((name, _)) => {
+            let at = name.len().min(keyword.len());
+            keyword.split_at(at)
+        }
         None => (keyword, b""),
     }
 }
 
 // Whether what is after a name is a value, or none.
 fn is_value(value: &[u8]) -> bool {
-    value == b":".as_slice() || (value.len() >= 2 && value.starts_with(b": ") && value.ends_with(b" "))
+    value == b":".as_slice()
+        || (value.len() >= 2 && value.starts_with(b": ") && value.ends_with(b" "))
 }
 
 // Whether what is after a name is a value of fixed length.
 fn is_fixed(value: &[u8]) -> bool {
-    value.len() > 4
-        && value.starts_with(b":: ")
-        && (value.ends_with(b" ") || value.ends_with(b"#"))
+    value.len() > 4 && value.starts_with(b":: ") && (value.ends_with(b" ") || value.ends_with(b"#"))
 }
 
 // Writes what is between the signs of a keyword without its value, if it is a keyword.

@@ -85,20 +85,22 @@ pub(crate) fn refuse_edit<F: Folder>(
     }
 }
 
-/// The texts that a file on disk may be in the repository, whatever its properties are: without values of keywords, and with each kind of line ends. None of
+/// The texts that a file on disk may be in the repository, whatever its properties are: without values of keywords, and with each kind of line ends; none of
 /// what is no file.
 pub(crate) fn readings<F: Folder>(
     alloc: Global,
     folder: &F,
     path: &RelPath,
-) -> Result<Option<[Text; 3]>, DiskFault> {
+) -> Result<Vec<Text>, DiskFault> {
+    let mut texts = Vec::new(alloc);
     let Some(Entry::File(bytes, _)) = folder.look(alloc, path)? else {
-        return Ok(None);
+        return Ok(texts);
     };
     let plain = without_values(alloc, bytes.as_slice(), Keywords::All)?;
-    Ok(Some([
-        stand_in(alloc, &plain)?,
-        stand_in(alloc, &with_line_ends(alloc, &plain, b"\n")?)?,
-        stand_in(alloc, &with_line_ends(alloc, &plain, b"\r\n")?)?,
-    ]))
+    texts.push(stand_in(alloc, &plain)?)?;
+    let unix = with_line_ends(alloc, &plain, b"\n")?;
+    texts.push(stand_in(alloc, &unix)?)?;
+    let others = with_line_ends(alloc, &plain, b"\r\n")?;
+    texts.push(stand_in(alloc, &others)?)?;
+    Ok(texts)
 }

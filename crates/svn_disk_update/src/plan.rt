@@ -179,6 +179,14 @@ impl<'a> Plan<'a> {
         self.changes.is_empty()
     }
 
+    /// Whether something changes on disk at a path.
+    pub(crate) fn changes_on_disk(&self, path: &RelPath) -> bool {
+        match self.changes.get(path) {
+            Some(change) => change.is_on_disk(),
+            None => false,
+        }
+    }
+
     /// Whether what is at a path goes.
     pub(crate) fn removes(&self, path: &RelPath) -> bool {
         match self.changes.get(path) {

@@ -20,9 +20,10 @@ struct Beside<'a, F> {
 }
 
 impl<F: Folder> Beside<'_, F> {
-    // Refuses a file or a link where the directory above something should be: nothing is written through a link.
+    // Refuses a file or a link where the directory above something should be: nothing is written through a link. One that changes itself is looked at with
+    // what changes.
     fn refuse_above(&self, path: &RelPath) -> Result<(), DiskFault> {
-        if self.plan.removes(path) {
+        if self.plan.changes_on_disk(path) {
             return Ok(());
         }
         match find(self.alloc, self.folder, path)? {

@@ -18,8 +18,8 @@ pub(crate) type Sizes = BTreeMap<RelPath, Option<u64>>;
 /// Rows of NODES, and the nodes of the base tree in the order of their rows.
 #[derive(Drop)]
 pub(crate) struct NodeRows {
-    pub(crate) rows: Vec<TableRow>,
-    pub(crate) nodes: Vec<(RelPath, BaseNode)>,
+    rows: Vec<TableRow>,
+    nodes: Vec<(RelPath, BaseNode)>,
     // The number of the last row.
     last: u64,
 }
@@ -33,6 +33,12 @@ impl NodeRows {
             bytes: row.bytes.clone()?,
         })?;
         Ok(())
+    }
+
+    /// The rows, and the nodes.
+    pub(crate) fn into_parts(self) -> (Vec<TableRow>, Vec<(RelPath, BaseNode)>) {
+        let NodeRows { rows, nodes, .. } = self;
+        (rows, nodes)
     }
 
     // Adds the row of a node, which is known beside it.
@@ -56,7 +62,10 @@ impl<S: Source> RowMaker<'_, S> {
     // The size and the time that are recorded of a file: those of the new one, or, if its text stays, those that were.
     fn size_and_time(&self, path: &RelPath, node: &BaseNode) -> Option<(u64, u64)> {
         if let Some(size) = self.sizes.get(path) {
-            return size.map(|size| (size, self.wanted.time));
+            return match size {
+                Some(size) => Some((*size, self.wanted.time)),
+                None => None,
+            };
         }
         match self.existing.copy.get(path) {
             Some(old) if old.text().is_some() && old.text() == node.text() => {
@@ -77,13 +86,7 @@ impl<S: Source> RowMaker<'_, S> {
             size_and_time: self.size_and_time(path, node),
             inherited: self.wanted.inherited_at(path),
         };
-        Ok(node_record(
-            self.alloc,
-            self.existing.owner,
-            path,
-            node,
-            &recorded,
-        )?)
+        Ok(node_record(self.alloc, self.existing.owner, path, node, &recorded)?)
     }
 
     // Whether the row of a node stays as it is.

@@ -18,11 +18,7 @@ pub(crate) fn take<F: Folder>(folder: &mut F, step: Step) -> Result<(), DiskFaul
 
 /// Makes an entry, whose time is that of the step.
 #[tactic(auto, using(crate::proofs::Going::keeps_more, crate::proofs::Going::stops_more, crate::proofs::Going::stops_there, crate::proofs::Going::stops_none))]
-pub(crate) fn make<F: Folder>(
-    folder: &mut F,
-    path: RelPath,
-    entry: Entry,
-) -> Result<(), DiskFault>
+pub(crate) fn make<F: Folder>(folder: &mut F, path: RelPath, entry: Entry) -> Result<(), DiskFault>
     ensures { Does (step.Make path entry None ∷ []) (F.past folder.old) result (F.past folder.new) }
 {
     let modified = None;

@@ -88,9 +88,6 @@ impl Task {
     /// Whether something comes where something else goes. Once such work is half done, not all of it can be done again.
     pub(crate) fn changes_kind(&self, alloc: Global) -> Result<bool, DiskFault> {
         let gone = self.gone(alloc)?;
-        Ok(self
-            .makings()
-            .iter()
-            .any(|item| gone.contains(item.path())))
+        Ok(self.makings().iter().any(|item| gone.contains(item.path())))
     }
 }

@@ -34,10 +34,12 @@ fn is_top(
         return Ok(!repos_path.is_root());
     };
     match copy.get(&parent) {
-        Some(BaseNode::Dir {
-            repos_path: above,
-            ..
-        }) => Ok(!repos_path.is_child_of(above, name)),
+        Some(
+            BaseNode::Dir {
+                repos_path: above,
+                ..
+            },
+        ) => Ok(!repos_path.is_child_of(above, name)),
         _ => Ok(false),
     }
 }
@@ -76,11 +78,7 @@ impl Wanted {
 }
 
 // What a node inherits from above it in the repository.
-fn inherited_by(
-    alloc: Global,
-    repo: &Repo,
-    node: &BaseNode,
-) -> Result<Option<Vec<u8>>, DiskFault> {
+fn inherited_by(alloc: Global, repo: &Repo, node: &BaseNode) -> Result<Option<Vec<u8>>, DiskFault> {
     match (node.rev(), node.repos_path()) {
         (Some(rev), Some(repos_path)) => inherited_props(alloc, repo, rev, repos_path),
         _ => Ok(None),

@@ -95,7 +95,12 @@ pub(crate) fn make<T: Files<File = File> + Threads + Input + Print + Eprint + Cl
         time,
         sync: !words.no_sync,
     };
-    check_out(alloc, &mut folder, &mut DumpSource::new(&history, texts), &what)?;
+    check_out(
+        alloc,
+        &mut folder,
+        &mut DumpSource::new(&history, texts),
+        &what,
+    )?;
     match println!(rt; "Checked out revision {}.", rev.0) {
         Ok(()) => Ok(()),
         Err(_) => Err(Fault::Write),

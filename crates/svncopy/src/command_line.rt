@@ -3,7 +3,8 @@
 use clap::{Arg, ArgAction, ArgMatches, Command, Error};
 use std::alloc::{AllocError, Global};
 
-const ABOUT: &str = "Makes working copies of Subversion from a dump of a repository, and puts them right.";
+const ABOUT: &str =
+    "Makes working copies of Subversion from a dump of a repository, and puts them right.";
 
 const AFTER: &str = "\
 docs/COPY.md describes what is written and what is refused.
@@ -76,7 +77,9 @@ fn no_sync<'a>(alloc: Global) -> Arg<'a> {
     Arg::new(alloc, "no-sync")
         .long("no-sync")
         .action(ArgAction::SetTrue)
-        .help("Leave it to the system when what is written reaches the disk: faster, but not safe against a loss of power")
+        .help(
+            "Leave it to the system when what is written reaches the disk: faster, but not safe against a loss of power",
+        )
 }
 
 // The word for how far it is.

@@ -11,7 +11,7 @@ use std::path::PathBuf;
 use std::process::ExitCode;
 use std::rt::{Clock, Files};
 use std::thread::Threads;
-use svn_disk_update::{Change, Mend, PathChange, Source, mend, mend_changes};
+use svn_disk_update::{Change, PathChange, Remedy, Source, mend, mend_changes};
 use svn_editor::PathWord;
 use svn_folder::{DiskFolder, SyncedFolder};
 
@@ -59,7 +59,7 @@ fn print_changes<T: Print>(rt: &T, word: &str, changes: &[PathChange]) -> Result
 #[derive(Drop)]
 struct Mending<'a, T> {
     rt: &'a T,
-    what: &'a Mend<'a>,
+    what: &'a Remedy<'a>,
     dry_run: bool,
 }
 
@@ -116,7 +116,7 @@ pub(crate) fn mend_all<T: Files<File = File> + Threads + Input + Print + Eprint 
     let dump = open(rt, words.dump, beside)?;
     let mut progress = Progress::begin(rt, words.progress);
     let (history, texts) = dump.load(alloc, &mut progress)?;
-    let what = Mend {
+    let what = Remedy {
         repo: &history.repo,
         uuid: history.uuid.as_slice(),
         time: now(rt)?,

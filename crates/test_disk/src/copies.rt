@@ -4,7 +4,9 @@ use anyhow::Result;
 use std::alloc::{AllocError, Global};
 use svn_digits::stand_in;
 use svn_disk_update::{Checkout, Source, TextSums, check_out};
-use svn_folder::{Folder, MemoryFolder, Pieces, StoppedFolder, SyncedFolder, an_empty_folder_is_synced};
+use svn_folder::{
+    Folder, MemoryFolder, Pieces, StoppedFolder, SyncedFolder, an_empty_folder_is_synced,
+};
 use svn_repo::{Change, PropName, Repo};
 use svn_types::{Digest, RelPath, Rev, Sha1Sum, Text};
 use svn_wc::WorkingCopy;

@@ -8,6 +8,7 @@ mod mend_refusals;
 mod mends;
 mod opaque;
 mod refusals;
+mod replay;
 mod stops;
 
 use anyhow::Result;

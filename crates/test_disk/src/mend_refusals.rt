@@ -1,10 +1,10 @@
 //! What keeps a false copy from being put right, and what would be done with one.
 
 use crate::copies::{Known, TEXTS};
-use crate::mends::{Falsehood, Left, left, what};
+use crate::mends::{Falsehood, Left, opened, what};
 use anyhow::Result;
 use std::alloc::Global;
-use svn_disk_update::{Mend, mend, mend_changes};
+use svn_disk_update::{Remedy, mend, mend_changes};
 use svn_folder::{Entry, Folder, Mode, Step};
 use svn_types::{RelPath, Text};
 
@@ -38,7 +38,7 @@ fn entry_of(alloc: Global, text: &str) -> Result<Entry> {
 }
 
 // Puts something to a path, in place of a file that is there.
-fn edit(alloc: Global, folder: &mut Left, edit: &Edit) -> Result<()> {
+fn put_edit(alloc: Global, folder: &mut Left, edit: &Edit) -> Result<()> {
     let (path, text) = edit;
     let path = RelPath::parse(alloc, path)?;
     if folder.look(alloc, &path)?.is_some() {
@@ -53,7 +53,7 @@ fn edit(alloc: Global, folder: &mut Left, edit: &Edit) -> Result<()> {
 }
 
 // What the mending says.
-fn said(alloc: Global, folder: &mut Left, what: &Mend<'_>) -> Result<String> {
+fn said(alloc: Global, folder: &mut Left, what: &Remedy<'_>) -> Result<String> {
     let mut source = Known::new(&TEXTS);
     Ok(match mend(alloc, folder, &mut source, what) {
         Ok(changes) => format!(in alloc; "{} paths", changes.len())?,
@@ -63,8 +63,8 @@ fn said(alloc: Global, folder: &mut Left, what: &Mend<'_>) -> Result<String> {
 
 fn try_edit<R: Print + AllocGlobal>(rt: &R, all: &Falsehood, row: &Edit) -> Result<()> {
     let alloc = rt.alloc();
-    let mut folder = left(alloc, all.stopped(alloc, 0)?);
-    edit(alloc, &mut folder, row)?;
+    let mut folder = opened(alloc, all.stopped(alloc, 0)?);
+    put_edit(alloc, &mut folder, row)?;
     let before = folder.folder.0.steps().len();
     let said = said(alloc, &mut folder, &what(&all.repo))?;
     let any = if folder.folder.0.steps().len() == before {
@@ -79,21 +79,24 @@ fn try_edit<R: Print + AllocGlobal>(rt: &R, all: &Falsehood, row: &Edit) -> Resu
 // By another repository, and of a copy that is true.
 fn try_others<R: Print + AllocGlobal>(rt: &R, all: &Falsehood) -> Result<()> {
     let alloc = rt.alloc();
-    let mut folder = left(alloc, all.stopped(alloc, 0)?);
-    let other = Mend {
+    let mut folder = opened(alloc, all.stopped(alloc, 0)?);
+    let other = Remedy {
         uuid: b"another",
         ..what(&all.repo)
     };
     println!(rt; "mend by another: {}", said(alloc, &mut folder, &other)?)?;
     println!(rt; "mend: {}", said(alloc, &mut folder, &what(&all.repo))?)?;
-    println!(rt; "mend again: {}", said(alloc, &mut folder, &what(&all.repo))?)?;
+    println!(rt;
+        "mend again: {}",
+        said(alloc, &mut folder, &what(&all.repo))?
+    )?;
     Ok(())
 }
 
 // What would be done.
 fn try_changes<R: Print + AllocGlobal>(rt: &R, all: &Falsehood) -> Result<()> {
     let alloc = rt.alloc();
-    let folder = left(alloc, all.stopped(alloc, 0)?);
+    let folder = opened(alloc, all.stopped(alloc, 0)?);
     for change in &mend_changes(alloc, &folder, &what(&all.repo))? {
         println!(rt; "would be mended: {}: {:?}", change.path, change.change)?;
     }

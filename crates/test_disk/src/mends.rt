@@ -3,10 +3,11 @@
 use crate::copies::{Known, TEXTS, UUID, empty, inner, make};
 use crate::histories::{FOUND, LOST, Node, repo_of};
 use crate::opaque::Opaque;
+use crate::replay::replay;
 use crate::stops::look;
 use anyhow::{Result, bail};
 use std::alloc::Global;
-use svn_disk_update::{Mend, Resumed, mend, resume};
+use svn_disk_update::{Remedy, Resumed, mend, resume};
 use svn_folder::{Entry, MemoryFolder, Mode, SyncedFolder};
 use svn_repo::Repo;
 use svn_types::{Rev, Text};
@@ -15,14 +16,19 @@ use svn_wcdb::read_base_tree;
 
 const DATABASE: &str = ".svn/wc.db";
 
+/// Of the stops before the new copy is there, each of so many is followed by another mend.
+const EACH: usize = 8;
+
 /// A false copy, the repository, and the copy put right.
 #[derive(Drop)]
 pub(crate) struct Falsehood {
     lost: WorkingCopy,
     found: WorkingCopy,
     pub(crate) repo: Repo,
-    // How many steps the false copy takes until it is on disk.
-    made: u64,
+    // The folder in which the false copy was made and put right.
+    whole: MemoryFolder,
+    // How many of its steps made the false copy.
+    made: usize,
 }
 
 /// A folder that a run has left, of which nothing is known.
@@ -33,8 +39,8 @@ fn copy_of(alloc: Global, repo: &Repo) -> Result<WorkingCopy> {
 }
 
 /// By what a copy is put right.
-pub(crate) fn what(repo: &Repo) -> Mend<'_> {
-    Mend {
+pub(crate) fn what(repo: &Repo) -> Remedy<'_> {
+    Remedy {
         repo,
         uuid: UUID,
         time: 1_700_000_000_000_000,
@@ -94,7 +100,7 @@ fn check_lost(alloc: Global, folder: &MemoryFolder) -> Result<()> {
 }
 
 /// The folder that a run has left, as one of which nothing is known.
-pub(crate) fn left(alloc: Global, folder: MemoryFolder) -> Left {
+pub(crate) fn opened(alloc: Global, folder: MemoryFolder) -> Left {
     SyncedFolder::new(alloc, Opaque(folder))
 }
 
@@ -111,22 +117,25 @@ impl Falsehood {
         let found = copy_of(alloc, &repo)?;
         let mut folder = empty(alloc, u64::MAX);
         make(alloc, &mut folder, &lost)?;
-        let made = inner(folder).steps().len() as u64;
+        let made = folder.folder.folder.steps().len();
+        mend(alloc, &mut folder, &mut Known::new(&TEXTS), &what(&repo))?;
         Ok(Falsehood {
             lost,
             found,
             repo,
+            whole: inner(folder),
             made,
         })
     }
 
     /// A folder with the false copy, after so many steps of putting it right.
-    pub(crate) fn stopped(&self, alloc: Global, limit: u64) -> Result<MemoryFolder> {
-        let mut folder = empty(alloc, self.made.saturating_add(limit));
-        make(alloc, &mut folder, &self.lost)?;
-        let mut source = Known::new(&TEXTS);
-        let _ = mend(alloc, &mut folder, &mut source, &what(&self.repo));
-        Ok(inner(folder))
+    pub(crate) fn stopped(&self, alloc: Global, count: usize) -> Result<MemoryFolder> {
+        replay(alloc, self.whole.steps(), self.made.saturating_add(count))
+    }
+
+    // How many steps put the false copy right.
+    fn steps(&self) -> usize {
+        self.whole.steps().len().saturating_sub(self.made)
     }
 
     // Which of the two copies the database stands for.
@@ -152,38 +161,44 @@ impl Falsehood {
         check_lost(alloc, folder)
     }
 
-    // Completes what was left, and puts it right again; returns which copy there was, and whether work was left.
-    fn complete(
-        &self,
-        alloc: Global,
-        mut folder: MemoryFolder,
-    ) -> Result<(&'static str, &'static str)> {
+    // Puts right again what was left, and looks at all of it.
+    fn mend_again(&self, alloc: Global, folder: MemoryFolder) -> Result<()> {
+        let mut folder = opened(alloc, folder);
+        mend(
+            alloc,
+            &mut folder,
+            &mut Known::new(&TEXTS),
+            &what(&self.repo),
+        )?;
+        self.check_whole(alloc, &memory(folder))
+    }
+
+    // Completes what was left after so many steps; returns which copy there was, and whether work was left.
+    fn complete(&self, alloc: Global, count: usize) -> Result<(&'static str, &'static str)> {
+        let mut folder = self.stopped(alloc, count)?;
         let word = self.word_of(alloc, &folder)?;
         let more = match resume(alloc, &mut folder, true)? {
             Resumed::Nothing => "",
             Resumed::Completed => ", with work left",
             Resumed::Cleared => bail!("there was no copy"),
         };
-        let mut folder = left(alloc, folder);
-        let mut source = Known::new(&TEXTS);
-        mend(alloc, &mut folder, &mut source, &what(&self.repo))?;
-        self.check_whole(alloc, &memory(folder))?;
+        if word == "the new copy" || count % EACH == 0 {
+            self.mend_again(alloc, folder)?;
+        }
         Ok((word, more))
     }
 }
 
 /// Stops the mending after each number of steps, and completes it.
 pub(crate) fn try_stopped_mends<R: Print + AllocGlobal>(rt: &R, all: &Falsehood) -> Result<()> {
-    let alloc = rt.alloc();
-    let whole = all.stopped(alloc, u64::MAX)?;
-    all.check_whole(alloc, &whole)?;
-    let steps = (whole.steps().len() as u64).saturating_sub(all.made);
+    all.check_whole(rt.alloc(), &all.whole)?;
+    let steps = all.steps();
     println!(rt; "a mend takes {steps} steps")?;
     let mut last = ("", "");
-    for limit in 0..steps + 1 {
-        let words = all.complete(alloc, all.stopped(alloc, limit)?)?;
+    for count in 0..steps.saturating_add(1) {
+        let words = all.complete(rt.alloc(), count)?;
         if words != last {
-            println!(rt; "stopped after {limit}: {}{}", words.0, words.1)?;
+            println!(rt; "stopped after {count}: {}{}", words.0, words.1)?;
             last = words;
         }
     }

@@ -5,7 +5,7 @@ use crate::checkout::refuse_reserved;
 use crate::existing::Existing;
 use crate::fault::{DiskFault, OtherRepository};
 use crate::layout::Admin;
-use crate::mended::mended;
+use crate::truth::mended;
 use crate::plan::{PathChange, Plan};
 use crate::refusals::refuse;
 use crate::source::Source;
@@ -17,7 +17,7 @@ use svn_types::Text;
 
 /// What a copy is put right by.
 #[derive(Clone, Copy)]
-pub struct Mend<'a> {
+pub struct Remedy<'a> {
     /// The repository. A file's text is its stand-in.
     pub repo: &'a Repo,
     /// The repository's UUID.
@@ -55,7 +55,7 @@ fn refuse_busy(existing: &Existing) -> Result<(), DiskFault> {
 fn begin<F: Folder>(
     alloc: Global,
     folder: &F,
-    what: &Mend<'_>,
+    what: &Remedy<'_>,
 ) -> Result<(Existing, Wanted), DiskFault> {
     let existing = Existing::read(alloc, folder)?;
     refuse_busy(&existing)?;
@@ -84,7 +84,7 @@ fn plan_of<'a, F: Folder>(
 pub fn mend_changes<F: Folder>(
     alloc: Global,
     folder: &F,
-    what: &Mend<'_>,
+    what: &Remedy<'_>,
 ) -> Result<Vec<PathChange>, DiskFault> {
     let (existing, wanted) = begin(alloc, folder, what)?;
     let plan = plan_of(alloc, folder, &existing, &wanted)?;
@@ -102,7 +102,7 @@ pub fn mend<F: Folder, S: Source>(
     alloc: Global,
     folder: &mut SyncedFolder<F>,
     source: &mut S,
-    what: &Mend<'_>,
+    what: &Remedy<'_>,
 ) -> Result<Vec<PathChange>, DiskFault> {
     let (existing, wanted) = begin(alloc, folder, what)?;
     let plan = plan_of(alloc, folder, &existing, &wanted)?;
