@@ -27,5 +27,5 @@ mod Joining
 mod Back
 -- several steps, as far as they are taken
 mod Several
--- files that are made of pieces, or from another one
-mod Filing
+-- steps that sync show nothing new
+pub mod Syncs

@@ -1,6 +1,6 @@
 -- Several steps, one after the other, as far as they are taken.
-use Rattle.std.proofs.Common.{◌≡◌, true, inl, inr, List, [], ◌∷◌, ◌++◌, length, refl, sym, ap, subst, arith, true≢false}
-use Rattle.std.specs.Prelude.{Result, Ok, Err, IsErr, IsErrAnd}
+use Rattle.std.proofs.Common.{◌≡◌, true, false, inl, inr, List, [], ◌∷◌, ◌++◌, length, refl, sym, subst, true≢false}
+use Rattle.std.specs.Prelude.{Result, Ok, Err, IsErr, IsErrAnd, ◌==◌}
 use Rattle.svn_types.specs.Names.{Path}
 use Rattle.svn_folder.specs.declared.step.Step.{Step}
 use Rattle.svn_folder.specs.declared.step.Step.TheVariants.{SyncFile, SyncDirectory}
@@ -18,40 +18,19 @@ Outcome = Result (Unit {0}) FolderFault
 abbrev pub Leads : List Step → Past → List Step → Past → Type 0
 Leads rest now all old = (result : Outcome) (new : Past) → TakesAll rest now result new → TakesAll all old result new
 
-pub at_first : (steps : List Step) (past : Past) → Leads steps past steps past
-at_first steps past result new takes = takes
-
-module _ (paths more all : List Path) (p : Path) (now old : Past) (is : paths ≡ p ∷ more) (leads : Leads (file_syncs paths) now (file_syncs all) old) where
-  leads_on : Leads (SyncFile p ∷ file_syncs more) now (file_syncs all) old
-  leads_on = subst (λ (l : List Path). Leads (file_syncs l) now (file_syncs all) old) is leads
-
-  -- the next one is taken
-  pub next_taken : (q : Path) (next : Past) → q ≡ p → Takes (SyncFile q) now (Ok tt) next → Leads (file_syncs more) next (file_syncs all) old
-  next_taken q next same taken result new takes =
-      leads_on result new (inr (next, subst (λ (x : Path). Takes (SyncFile x) now (Ok tt) next) same taken, takes))
-
-  -- it isn't
-  pub next_refused : (q : Path) (fault : FolderFault) (new : Past) → q ≡ p → Takes (SyncFile q) now (Err fault) new → TakesAll (file_syncs all) old (Err fault) new
-  next_refused q fault new same takes = leads_on (Err fault) new (inl (refl, subst (λ (x : Path). Takes (SyncFile x) now (Err fault) new) same takes))
-
-  -- or isn't tried
-  pub next_untried : (fault : FolderFault) → TakesAll (file_syncs all) old (Err fault) now
-  next_untried fault = leads_on (Err fault) now (inl (refl, refuses (SyncFile p) now fault))
-
-pub all_taken : (paths all : List Path) (now old : Past) → length paths ≡ 0 → Leads (file_syncs paths) now (file_syncs all) old
-    → TakesAll (file_syncs all) old (Ok tt) now
-all_taken [] all now old h leads = leads (Ok tt) now (refl, refl)
-all_taken (p ∷ paths) all now old h leads = absurd (omega arith)
-
 -- ---- of a folder of which nothing is known
 
-pub unknown_taken : (paths : List Path) → TakesAll (file_syncs paths) Unknown (Ok tt) Unknown
+unknown_taken : (paths : List Path) → TakesAll (file_syncs paths) Unknown (Ok tt) Unknown
 unknown_taken [] = (refl, refl)
 unknown_taken (p ∷ paths) = inr (Unknown, refl, unknown_taken paths)
 
-pub unknown_refused : (paths : List Path) (fault : FolderFault) → (length paths ≡ 0 → ⊥) → TakesAll (file_syncs paths) Unknown (Err fault) Unknown
-unknown_refused [] fault some = absurd (some refl)
+unknown_refused : (paths : List Path) (fault : FolderFault) → (length paths == 0) ≡ false → TakesAll (file_syncs paths) Unknown (Err fault) Unknown
+unknown_refused [] fault some = absurd (true≢false some)
 unknown_refused (p ∷ paths) fault some = inl (refl, refl)
+
+pub unknown_done : (paths : List Path) (result : Outcome) → (length paths == 0) ≡ false → TakesAll (file_syncs paths) Unknown result Unknown
+unknown_done paths (Ok done) some = unknown_taken paths
+unknown_done paths (Err fault) some = unknown_refused paths fault some
 
 -- ---- steps that sync
 

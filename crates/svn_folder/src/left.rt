@@ -1,5 +1,6 @@
 //! What a crash may leave at a path of a folder in memory.
 ghost use Rattle.std.specs.Prelude.{◌≡◌, ◌⊎◌, [], false, if◌then◌else◌, IfOk, IsTrue, MatchOption};
+ghost use Rattle.svn_types.specs.Paths.{path_eq};
 ghost use Rattle.svn_folder.specs.States.{Place, State, empty, nothing, fresh, vacant, with_name, becomes};
 ghost use Rattle.svn_folder.specs.Steps.{put, sync_file, sync_directory, is_in, moved, after, run};
 ghost use Rattle.svn_folder.specs.Memory.{IsPlace};
@@ -130,6 +131,12 @@ fn directory_synced(
     Ok(named(alloc, counts, left))
 }
 
+fn is_other(one: &RelPath, path: &RelPath) -> bool
+    ensures { IsTrue result → path_eq one.now path.now ≡ false }
+{
+    one != path
+}
+
 // Once a file has another path.
 fn renamed(
     from: &RelPath,
@@ -194,7 +201,7 @@ pub(crate) fn left_at(alloc: Global, steps: &[Step], path: &RelPath) -> Result<L
         }
         Step::Rename { from, to } => {
             let left = left_at(alloc, before, path)?;
-            if to != path {
+            if is_other(to, path) {
                 return Ok(removed(from, path, left)?);
             }
             let source = left_at(alloc, before, from)?;
