@@ -4,3 +4,9 @@ pub mod Going
 pub mod Leaving
 -- the administrative folder gets its name
 pub mod Moving
+-- parts of a call one after the other, and a crash during them
+pub mod Running
+-- a copy that is whole stays so
+pub mod Whole
+-- which steps are of the copy
+pub mod Placing

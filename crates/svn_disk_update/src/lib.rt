@@ -45,6 +45,7 @@ mod inside;
 mod laws;
 mod layout;
 mod node_file;
+mod plan;
 mod prepared;
 mod read_back;
 mod settle;
