@@ -9,7 +9,7 @@ use Rattle.svn_folder.specs.declared.fault.FolderFault.{FolderFault}
 use Rattle.svn_folder.specs.States.{State}
 use Rattle.svn_folder.specs.Pasts.{Past, Known, Broken, IsFailure, Takes}
 use Rattle.svn_folder.specs.Files.{TakesAll, TakesSyncs, AreSyncs, is_sync}
-use Rattle.svn_disk_update.specs.Goes.{Stands, Ends, Keeps, Stops, Goes, Took, Missed}
+use Rattle.svn_disk_update.specs.Goes.{Stands, Ends, Keeps, Stops, Goes, Does, Took, Missed}
 
 -- one more step
 each_more : (P : Step → Bool) (steps : List Step) (step : Step) → list_all P steps ≡ true → P step ≡ true → list_all P (steps ++ step ∷ []) ≡ true
@@ -151,3 +151,10 @@ all_syncs (step ∷ steps) h = ap (λ b. b && list_all is_sync steps) h.0 ∙ al
 
 pub syncs_go : (old new : Past) (result : Result (Unit {0}) FolderFault) → TakesSyncs old result new → Goes is_sync old result new
 syncs_go old new result takes = takes_all is_sync takes.steps old new result (all_syncs takes.steps takes.are_syncs) takes.takes
+
+-- ---- from what a call does
+
+pub does_goes : {T : Type 0} → {E : Type 0} → (P : Step → Bool) (taken : List Step) (old new : Past) (result : Result T E) → list_all P taken ≡ true
+    → Does taken old result new → Goes P old result new
+does_goes P taken old new (Ok value) h does = (does.0 P h, tt)
+does_goes P taken old new (Err fault) h does = (tt, does.1 P h)

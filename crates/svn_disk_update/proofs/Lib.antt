@@ -10,3 +10,9 @@ pub mod Running
 pub mod Whole
 -- which steps are of the copy
 pub mod Placing
+-- the parts of a checkout, and a crash during each
+pub mod Replacing
+-- what a folder shows when it is read back
+pub mod Reading
+-- lists that are made of the nodes of a copy
+pub mod Planning

@@ -19,7 +19,7 @@ use Rattle.svn_folder.proofs.Firm.{stays}
 use Rattle.svn_disk_update.specs.Laws.{IsThereUnder, a_directory_is_renamed_at_once}
 use Rattle.svn_disk_update.proofs.Leaving.{free_on_disk}
 
-same_name : (n : Name) → bytes_eq n n ≡ true
+pub same_name : (n : Name) → bytes_eq n n ≡ true
 same_name n = (and_parts (bytes_eq n n) true (path_eq-same (n ∷ []))).0
 
 -- a name that is on the disk is as it was once it is synced

@@ -1,9 +1,9 @@
 -- Which steps of a checkout are of its copy, and what the work of a copy is about.
 use Rattle.std.proofs.Common.{◌≡◌, Bool, true, false, ◌&&◌, ◌||◌, not, List, [], ◌∷◌, ◌++◌, refl, sym, ◌∙◌, ap, subst, true≢false, append_assoc}
-use Rattle.std.specs.Prelude.{ℕ, bytes_eq, codes, Result}
+use Rattle.std.specs.Prelude.{ℕ, ◌<◌, length, get_or, bytes_eq, codes, None, Result}
 use Rattle.std.specs.List.{list_all, list_any}
 use Rattle.std.proofs.lemmas.Bool.{and_parts}
-use Rattle.std.proofs.lemmas.List.Folds.{list_all-append, list_any-append}
+use Rattle.std.proofs.lemmas.List.Folds.{list_all-append, list_any-append, list_all_at}
 use Rattle.svn_types.specs.Names.{Path}
 use Rattle.svn_types.specs.Paths.{is_within, path_eq}
 use Rattle.svn_types.proofs.NameLemmas.{Name}
@@ -12,14 +12,16 @@ use Rattle.svn_model.specs.declared.base_node.BaseNode.{BaseNode}
 use Rattle.svn_model.specs.declared.base_node.BaseNode.TheVariants.{File as FileNode, Dir as DirNode, NotPresent}
 use Rattle.svn_wcrows.specs.declared.work.Work.{Work}
 use Rattle.svn_wcrows.specs.declared.work.Work.TheVariants.{MakeDirectory, InstallFile}
+use Rattle.svn_folder.specs.declared.entry.Entry.TheVariants.{Directory}
 use Rattle.svn_folder.specs.declared.step.Step.{Step}
 use Rattle.svn_folder.specs.declared.step.Step.TheVariants.{Make, SyncFile, SyncDirectory, Rename, RenameDirectory, RemoveFile, RemoveDirectory}
 use Rattle.svn_folder.specs.Pasts.{Past}
 use Rattle.svn_folder.specs.Files.{is_sync}
 use Rattle.svn_disk_update.specs.Goes.{Keeps, Stops, Goes}
-use Rattle.svn_disk_update.specs.Places.{is_inside, is_placing, is_outside, is_node, is_reserved, is_naming, is_of_copy}
+use Rattle.svn_disk_update.specs.Places.{is_inside, is_placing, is_outside, is_node, is_reserved, is_naming, is_of_copy, temporary_place, IsTemporary}
 use Rattle.svn_disk_update.specs.Plans.{entry_work, node_work, work_of, path_of}
-use Rattle.svn_disk_update.proofs.Going.{goes_wider}
+use Rattle.svn_disk_update.proofs.Going.{keeps_wider, stops_wider, goes_wider, one_each}
+use Rattle.svn_disk_update.proofs.Moving.{same_name}
 
 -- ---- syncs are anywhere
 
@@ -78,30 +80,35 @@ module _ (copy : List (Path × BaseNode)) where
   abbrev four : Step → Bool
   four step = is_placing (codes ".svn") (is_node copy) step
 
-  new_goes : {T : Type 0} → {E : Type 0} → (old new : Past) (result : Result T E) → Goes (is_inside (codes ".svn-new")) old result new
-      → Goes (is_of_copy copy) old result new
-  new_goes old new result goes =
-      goes_wider (is_inside (codes ".svn-new")) (is_of_copy copy) (λ step h. first_of (one step) (is_naming step) (three step) (four step) h) old new result goes
-
   -- in the folder in which a copy is made
-  pub made_goes : {T : Type 0} → {E : Type 0} → (n : Name) → n ≡ codes ".svn-new" → (old new : Past) (result : Result T E) → Goes (is_inside n) old result new
-      → Goes (is_of_copy copy) old result new
-  made_goes n is old new result goes = new_goes old new result (subst (λ (m : Name). Goes (is_inside m) old result new) is goes)
+  made_of : (n : Name) → n ≡ codes ".svn-new" → (step : Step) → is_inside n step ≡ true → is_of_copy copy step ≡ true
+  made_of n is step h = first_of (one step) (is_naming step) (three step) (four step) (ap (λ (m : Name). is_inside m step) (sym is) ∙ h)
 
   -- in its own
-  pub inside_goes : {T : Type 0} → {E : Type 0} → (n : Name) → n ≡ codes ".svn" → (old new : Past) (result : Result T E) → Goes (is_inside n) old result new
-      → Goes (is_of_copy copy) old result new
-  inside_goes n is old new result goes =
-      goes_wider (is_inside (codes ".svn")) (is_of_copy copy) (λ step h. third_of (one step) (is_naming step) (three step) (four step) h) old new result
-      (subst (λ (m : Name). Goes (is_inside m) old result new) is goes)
+  inside_of : (n : Name) → n ≡ codes ".svn" → (step : Step) → is_inside n step ≡ true → is_of_copy copy step ≡ true
+  inside_of n is step h = third_of (one step) (is_naming step) (three step) (four step) (ap (λ (m : Name). is_inside m step) (sym is) ∙ h)
 
   -- at its nodes
-  pub placing_goes : {T : Type 0} → {E : Type 0} → (n : Name) → n ≡ codes ".svn" → (old new : Past) (result : Result T E)
-      → Goes (is_placing n (is_node copy)) old result new → Goes (is_of_copy copy) old result new
-  placing_goes n is old new result goes =
-      goes_wider (is_placing (codes ".svn") (is_node copy)) (is_of_copy copy)
-      (λ step h. last_of (one step) (is_naming step) (three step) (four step) h) old new result
-      (subst (λ (m : Name). Goes (is_placing m (is_node copy)) old result new) is goes)
+  placing_of : (n : Name) → n ≡ codes ".svn" → (step : Step) → is_placing n (is_node copy) step ≡ true → is_of_copy copy step ≡ true
+  placing_of n is step h =
+      last_of (one step) (is_naming step) (three step) (four step) (ap (λ (m : Name). is_placing m (is_node copy) step) (sym is) ∙ h)
+
+  module _ (n : Name) (old new : Past) where
+    pub made_keeps : n ≡ codes ".svn-new" → Keeps (is_inside n) old new → Keeps (is_of_copy copy) old new
+    made_keeps is keeps = keeps_wider (is_inside n) (is_of_copy copy) (made_of n is) old new keeps
+
+    pub made_stops : n ≡ codes ".svn-new" → Stops (is_inside n) old new → Stops (is_of_copy copy) old new
+    made_stops is stops = stops_wider (is_inside n) (is_of_copy copy) (made_of n is) old new stops
+
+    pub inside_goes : {T : Type 0} → {E : Type 0} → n ≡ codes ".svn" → (result : Result T E) → Goes (is_inside n) old result new
+        → Goes (is_of_copy copy) old result new
+    inside_goes is result goes = goes_wider (is_inside n) (is_of_copy copy) (inside_of n is) old new result goes
+
+    pub placing_keeps : n ≡ codes ".svn" → Keeps (is_placing n (is_node copy)) old new → Keeps (is_of_copy copy) old new
+    placing_keeps is keeps = keeps_wider (is_placing n (is_node copy)) (is_of_copy copy) (placing_of n is) old new keeps
+
+    pub placing_stops : n ≡ codes ".svn" → Stops (is_placing n (is_node copy)) old new → Stops (is_of_copy copy) old new
+    placing_stops is stops = stops_wider (is_placing n (is_node copy)) (is_of_copy copy) (placing_of n is) old new stops
 
 -- it gets its name
 pub naming_of_copy : (copy : List (Path × BaseNode)) → list_all (is_of_copy copy) (RenameDirectory (codes ".svn-new") (codes ".svn") ∷ []) ≡ true
@@ -157,3 +164,23 @@ each_free front ((p, node) ∷ rest) h =
 pub work_free : (copy : List (Path × BaseNode)) → list_any (λ entry. is_reserved entry.0) copy ≡ false
     → list_all (λ item. is_node copy (path_of item)) (work_of copy) ≡ true
 work_free copy h = each_free [] copy h
+
+-- ---- what has no name yet
+
+pub temporary_within : (n : Name) (p : Path) → IsTemporary n p → is_within (temporary_place n) p ≡ true
+temporary_within n p (name, is) = ap (is_within (temporary_place n)) is ∙ ap (λ b. b && true) (same_name n)
+
+pub makes_free : (n : Name) (free : Path → Bool) (p : Path) → free p ≡ true → list_all (is_placing n free) (Make p Directory None ∷ []) ≡ true
+makes_free n free p h = one_each (is_placing n free) (Make p Directory None) h
+
+pub renames_free : (n : Name) (free : Path → Bool) (p q : Path) → IsTemporary n p → free q ≡ true → list_all (is_placing n free) (Rename p q ∷ []) ≡ true
+renames_free n free p q temporary h = one_each (is_placing n free) (Rename p q) (ap (λ b. b && free q) (temporary_within n p temporary) ∙ h)
+
+-- ---- items of a list
+
+pub all_item : {X : Type 0} (P : X → Bool) (xs : List X) (i : ℕ) (d x : X) → i < length xs → x ≡ get_or xs i d → list_all P xs ≡ true → P x ≡ true
+all_item P xs i d x below is all = by (P x) refl
+  where
+    by : (b : Bool) → P x ≡ b → b ≡ true
+    by true e = refl
+    by false e = absurd (true≢false (sym all ∙ list_all_at P xs i d below (ap P (sym is) ∙ e)))

@@ -1,6 +1,6 @@
 -- Parts of a call one after the other, and what a crash during them leaves.
 use Rattle.std.proofs.Common.{◌≡◌, Bool, true, ◌⊎◌, inl, inr, ⊎_elim, List, [], ◌∷◌, ◌++◌, length, take, drop, refl, sym, ◌∙◌, ap, subst, append_assoc, append-nil}
-use Rattle.std.specs.Prelude.{Result, Ok, Err}
+use Rattle.std.specs.Prelude.{Result, Ok, Err, OnOk}
 use Rattle.std.specs.List.{list_all}
 use Rattle.svn_folder.specs.declared.step.Step.{Step}
 use Rattle.svn_folder.specs.States.{Seen, State}
@@ -8,7 +8,7 @@ use Rattle.svn_folder.specs.Steps.{run, after}
 use Rattle.svn_folder.specs.Crashes.{RunMayLeave}
 use Rattle.svn_folder.specs.Pasts.{Past, Known, Broken, LeftSince, moment}
 use Rattle.svn_folder.proofs.Runs.{run_join, left_split}
-use Rattle.svn_disk_update.specs.Goes.{Stands, Ends, Keeps, Stops, Took, Missed}
+use Rattle.svn_disk_update.specs.Goes.{Stands, Ends, Keeps, Stops, Took, Missed, TakesOne}
 use Rattle.svn_disk_update.specs.Crashes.{IsFree, Leaves, LeavesAfter, LeadsTo, BreaksAt, Leads, Breaks, Runs}
 use Rattle.svn_disk_update.proofs.Going.{stands_at_first}
 use Rattle.svn_disk_update.proofs.Leaving.{left_since}
@@ -117,6 +117,17 @@ module _ (I : State → Type 0) (C : Seen → Type 0) (J : State → Type 0) whe
       }
       by s steps begins (inr failed) = record { more = step ∷ []; past = inr failed; meanwhile = law (run s steps) begins }
 
+  -- nothing is done
+  pub breaks_none : ((s : State) → I s → (left : Seen) → RunMayLeave s [] left → C left) → (now : Past) → Breaks I C now now
+  breaks_none law now = record {
+    each = λ s steps is begins. record { more = []; past = inl (is ∙ ap (Known s) (sym (append-nil steps))); meanwhile = law (run s steps) begins };
+  }
+
+  pub one_runs : {T : Type 0} → {E : Type 0} → (step : Step) (old new : Past) (result : Result T E) → (Took step old new → Leads I C J old new)
+      → (Missed step old new → Breaks I C old new) → TakesOne step old result new → Runs I C J old result new
+  one_runs step old new (Ok value) leads breaks one = (leads one.0, tt)
+  one_runs step old new (Err fault) leads breaks one = (tt, breaks one.1)
+
 -- ---- of a whole call
 
 -- any step may have been taken
@@ -153,3 +164,15 @@ pub leads_after : {C P : Seen → Type 0} → {J : State → Type 0} → {old ne
 leads_after {P = P} {J = J} {new = new} law leads s steps is free left may =
     let a = leads.each s steps is free in
     after_it P s (steps ++ a.more) new a.past (law (run s (steps ++ a.more)) (begins_there J s steps a.more a.ends)) left may
+
+-- ---- by its result
+
+pub runs_leaves : {T : Type 0} → {E : Type 0} → (C : Seen → Type 0) (K : State → Type 0) (old new : Past) (result : Result T E)
+    → Runs IsFree C K old result new → Leaves C old new
+runs_leaves C K old new (Ok value) runs = leads_leaves runs.0
+runs_leaves C K old new (Err fault) runs = breaks_leaves runs.1
+
+pub runs_after : {T : Type 0} → {E : Type 0} → (C P : Seen → Type 0) (K : State → Type 0) (old new : Past) (result : Result T E)
+    → ((s : State) → K s → (left : Seen) → RunMayLeave s [] left → P left) → Runs IsFree C K old result new → OnOk result (LeavesAfter P old new)
+runs_after C P K old new (Ok value) law runs = leads_after law runs.0
+runs_after C P K old new (Err fault) law runs = tt

@@ -113,7 +113,7 @@ outside_apart : (p r : Path) → is_outside p ≡ true → not (is_within p (svn
 outside_apart [] r h = absurd (true≢false (sym h))
 outside_apart (k ∷ p) r h = not_and (bytes_eq k svn) (is_within p r) h
 
-temporary_apart : (k : Name) (p r : Path) → bytes_eq (codes "tmp") k ≡ false → is_within (temporary_place svn) p ≡ true
+pub temporary_apart : (k : Name) (p r : Path) → bytes_eq (codes "tmp") k ≡ false → is_within (temporary_place svn) p ≡ true
     → not (is_within p (svn ∷ k ∷ r)) ≡ true
 temporary_apart k p r other h =
     let parts = split_within (temporary_place svn) p h in
@@ -229,10 +229,6 @@ module _ (copy : List (Path × BaseNode)) where
   -- it got its name
   abbrev pub IsPut : State → Type 0
   IsPut t = (s : State) × IsSet copy s × (t ≡ after (Rename from to) s)
-
-  pub removed_there : (s : State) → IsSafe copy s
-      → IsSafe copy (after (RemoveFile from) s) × ((left : Seen) → RunMayLeave s (RemoveFile from ∷ []) left → IsNoneOrWhole copy left)
-  removed_there s safe = safe_apart copy s (RemoveFile from ∷ []) (refl, tt) (λ t. (refl, tt)) safe
 
   pub made_there : (bytes : List ℕ) (mode : Mode) → StandsFor (present_nodes copy) bytes → (s : State) → IsSafe copy s
       → IsMade (after (Make from (File bytes mode) None) s)

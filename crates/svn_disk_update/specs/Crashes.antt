@@ -15,6 +15,8 @@ use Rattle.svn_wcrows.specs.Copies.{StandsFor}
 use Rattle.svn_folder.specs.declared.entry.Mode.{Mode}
 use Rattle.svn_folder.specs.declared.entry.Entry.{Entry}
 use Rattle.svn_folder.specs.declared.entry.Entry.TheVariants.{File}
+use Rattle.svn_folder.specs.declared.summary.Summary.{Summary}
+use Rattle.svn_folder.specs.declared.summary.Summary.TheVariants as summary
 use Rattle.svn_folder.specs.declared.step.Step.{Step}
 use Rattle.svn_folder.specs.States.{Seen, State, seen}
 use Rattle.svn_folder.specs.Steps.{run}
@@ -30,6 +32,10 @@ use Rattle.svn_disk_update.specs.Plans.{present_nodes}
 -- a file is there, with these bytes
 abbrev pub HasBytes : List ℕ → Option Entry → Type 0
 HasBytes bytes found = (mode : Mode) × (found ≡ Some (File bytes mode))
+
+-- it is a file with this checksum
+abbrev pub HasSum : List ℕ → Summary → Type 0
+HasSum sum found = (len : ℕ) × (mode : Mode) × (found ≡ summary.File len sum mode)
 
 -- a file is there, with the text of this stand-in
 pub record IsTextOf (name : List ℕ) (found : Option Entry) : Type 0 where

@@ -6,7 +6,7 @@ ghost use Rattle.svn_folder.specs.declared.step.Step.TheVariants.{RenameDirector
 ghost use Rattle.svn_folder.specs.States.{seen};
 ghost use Rattle.svn_folder.specs.Syncing.{IsSyncedPast};
 ghost use Rattle.svn_disk_update.specs.Crashes.{IsWhole, IsNoneOrWhole, IsFree, IsSafe, IsLasting, Leaves, LeavesAfter, Runs};
-ghost use Rattle.svn_disk_update.specs.Goes.{Goes, TakesOne, IsAlways};
+ghost use Rattle.svn_disk_update.specs.Goes.{Goes, Does, TakesOne, IsAlways};
 ghost use Rattle.svn_disk_update.specs.Places.{is_inside, is_reserved, is_of_copy};
 ghost use Rattle.svn_disk_update.specs.Plans.{present_nodes, work_of};
 
@@ -338,7 +338,8 @@ fn lay_out_on_disk<F: Folder, S: Source>(
 
 // The administrative folder gets its name.
 fn name_folder<F: Folder>(alloc: Global, folder: &mut F) -> Result<(), DiskFault>
-    ensures { TakesOne (RenameDirectory (codes ".svn-new") (codes ".svn")) (F.past folder.old) result (F.past folder.new) }
+    ensures does { Does (RenameDirectory (codes ".svn-new") (codes ".svn") ∷ []) (F.past folder.old) result (F.past folder.new) }
+    ensures one { TakesOne (RenameDirectory (codes ".svn-new") (codes ".svn")) (F.past folder.old) result (F.past folder.new) }
 {
     let from = Admin::of_new(alloc)?.name.clone()?;
     let to = Admin::of_copy(alloc)?.name.clone()?;

@@ -19,19 +19,20 @@
 //! | `node_file` | what a file is on disk, by its text and properties |
 //! | `source`, `texts`, `prepared`, `read_back` | where texts come from; pristine texts; files under names of their own; what was written, read back |
 //! | `inherited` | the properties that a copy's root inherits |
-//! | `carry` | the work of a new copy, done |
+//! | `plan`, `carry` | the work of a new copy; the same, done |
 //! | `checkout` | a new copy |
 //! | `existing`, `clearing`, `completion` | one that is on disk; what was cut off before there was one; what was cut off, completed |
-//! | `laws` | what the crash theorem rests on |
+//! | `laws` | what the crash theorem rests on, of a rename |
 //!
-//! Definitions, in the order of reading: `specs/Goes.antt` (which steps a call takes), `Places.antt` (where they are), `Laws.antt`, `Crashes.antt` (what a
-//! crash during a checkout leaves).
+//! Definitions, in the order of reading: `specs/Goes.antt` (which steps a call takes), `Places.antt` (where they are), `Plans.antt` (what is written of a
+//! copy), `Crashes.antt` (what a crash during a checkout leaves), `Laws.antt`.
 //!
-//! Promises: every function is safe and returns. The databases are made by `write_copy` of `svn_wcrows`, which returns bytes only if the nodes of the copy
-//! are read from them. Until the administrative folder of a checkout gets its name, each step is inside of the folder `.svn-new`, or is a sync
-//! (`is_inside`), and a crash leaves no copy (`IsNoCopy`). It gets its name only once all is on the disk. A crash then leaves nothing at that name, or all
-//! that was at the old one (`LeavesEither`). The database is replaced by steps inside of the administrative folder alone. What a crash leaves while the
-//! work of the new copy is done is tested by `test_disk` at each step, and not yet proved.
+//! Promises: every function is safe and returns. Each step of [`check_out`] is inside of `.svn-new` or `.svn`, is the rename of the one to the other, or
+//! makes or places a node of the copy: no other path is changed (`is_of_copy`). With `sync`, in a folder that is all on the disk and has no copy, a crash
+//! at any moment of it leaves no copy, or the whole one (`Leaves`, `IsNoneOrWhole`), and once it has returned Ok the whole one (`LeavesAfter`): at
+//! `.svn/wc.db` a file whose bytes stand for a copy with just these nodes, and of each file the pristine text, by its checksum (`IsWhole`). A crash is one
+//! of `svn_folder`, so this is said of folders whose steps are known; of a folder of the system no contract speaks. Not proved, and tested by `test_disk`
+//! at each step: that the files of the copy are at their places in the end, and what [`resume`] does.
 #![tactic(auto)]
 
 mod carry;

@@ -1,5 +1,5 @@
 //! What was written, read back before it counts.
-ghost use Rattle.std.specs.Prelude.{◌≡◌, true, IfOk, OnOk};
+ghost use Rattle.std.specs.Prelude.{◌≡◌, true, Some, IfOk, OnOk};
 ghost use Rattle.svn_wcrows.specs.Copies.{StandsFor};
 ghost use Rattle.svn_folder.specs.States.{seen};
 ghost use Rattle.svn_disk_update.specs.Goes.{IsAlways};
@@ -52,6 +52,16 @@ fn read_texts<F: Folder>(
     Ok(())
 }
 
+// Whether it is a file with these bytes.
+fn has_bytes(entry: &Entry, image: &Text) -> bool
+    ensures { result ≡ true → HasBytes image.now (Some entry.now) }
+{
+    match entry {
+        Entry::File(bytes, _) => bytes == image,
+        Entry::Directory | Entry::Link(_) => false,
+    }
+}
+
 // Whether the database has these bytes.
 fn has_database<F: Folder>(
     alloc: Global,
@@ -61,10 +71,11 @@ fn has_database<F: Folder>(
 ) -> Result<bool, DiskFault>
     ensures { IfOk result (λ has. has ≡ true → IsAlways (λ s. HasBytes image.now (seen s (database_place admin.now.name))) (F.past folder.now)) }
 {
-    Ok(match folder.look(alloc, &admin.database(alloc)?)? {
-        Some(Entry::File(bytes, _)) => bytes == *image,
-        _ => false,
-    })
+    let place = admin.database(alloc)?;
+    match folder.look(alloc, &place)? {
+        Some(entry) => Ok(has_bytes(&entry, image)),
+        None => Ok(false),
+    }
 }
 
 /// Reads back the texts of a copy and its database. NoText at the first file whose text isn't under its name, NoImage where the database hasn't these
