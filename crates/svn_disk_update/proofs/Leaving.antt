@@ -1,6 +1,6 @@
 -- Steps in the folder of a copy that is made, and a crash during them: there is no copy yet.
 use Rattle.std.proofs.Common.{◌≡◌, Bool, true, false, ◌&&◌, ◌⊎◌, inl, inr, not, List, [], ◌∷◌, ◌++◌, length, take, drop, refl, sym, ◌∙◌, ap, subst, true≢false}
-use Rattle.std.specs.Prelude.{bytes_eq, codes, Result, Ok, Err}
+use Rattle.std.specs.Prelude.{bytes_eq, codes}
 use Rattle.std.specs.List.{list_all}
 use Rattle.std.proofs.lemmas.Bool.{and_parts}
 use Rattle.std.proofs.Math.Seq.{take-append_seam, drop-append_seam}
@@ -19,10 +19,9 @@ use Rattle.svn_folder.specs.Syncing.{IsSynced}
 use Rattle.svn_folder.specs.Pasts.{Past, Known, Broken, LeftSince}
 use Rattle.svn_folder.proofs.Apart.{meanwhile}
 use Rattle.svn_folder.proofs.Settled.{on_disk}
-use Rattle.svn_disk_update.specs.Goes.{Stands, Ends, Stops, Goes}
+use Rattle.svn_disk_update.specs.Goes.{Ends}
 use Rattle.svn_disk_update.specs.Places.{is_inside}
-use Rattle.svn_disk_update.specs.Crashes.{IsFree, IsNoCopy, Leaves}
-use Rattle.svn_disk_update.proofs.Going.{stands_at_first, stops_there}
+use Rattle.svn_disk_update.specs.Crashes.{IsFree, IsNoCopy}
 
 -- ---- what is inside of one name is apart from another
 
@@ -74,18 +73,7 @@ left_since P s steps new ends left may = by ends.past
 pub free_on_disk : (s : State) (m : Name) → IsSynced s → IsOnDisk s (m ∷ [])
 free_on_disk s m synced = on_disk s synced (m ∷ []) (and_parts (has_directory (seen s [])) (is_none_older (s []).older) synced.root).0
 
-no_copy_left : (n : Name) (s : State) (more : List Step) (left : Seen) → bytes_eq n (codes ".svn") ≡ false → list_all (is_inside n) more ≡ true
+pub no_copy_left : (n : Name) (s : State) (more : List Step) (left : Seen) → bytes_eq n (codes ".svn") ≡ false → list_all (is_inside n) more ≡ true
     → IsFree s → RunMayLeave s more left → IsNoCopy left
 no_copy_left n s more left other all free may =
     (meanwhile s more (codes ".svn" ∷ []) (free_on_disk s (codes ".svn") free.synced) (each_apart n (codes ".svn") [] other more all)).0 left may ∙ free.free
-
-pub stops_no_copy : (n : Name) (old new : Past) → bytes_eq n (codes ".svn") ≡ false → Stops (is_inside n) old new → Leaves IsNoCopy old new
-stops_no_copy n old new other stops s steps is free left may =
-    let stands = subst (λ (x : Past). Stands (is_inside n) s steps x) (sym is) (stands_at_first (is_inside n) s steps) in
-    let ends = stops.each s steps stands in
-    no_copy_left n (run s steps) ends.more left other ends.each free (left_since (is_inside n) s steps new ends left may)
-
-pub goes_no_copy : {T : Type 0} → {E : Type 0} → (n : Name) (old new : Past) (result : Result T E) → bytes_eq n (codes ".svn") ≡ false
-    → Goes (is_inside n) old result new → Leaves IsNoCopy old new
-goes_no_copy n old new (Ok value) other goes = stops_no_copy n old new other (stops_there goes.0)
-goes_no_copy n old new (Err fault) other goes = stops_no_copy n old new other goes.1

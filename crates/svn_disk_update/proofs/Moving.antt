@@ -1,29 +1,25 @@
 -- A directory gets another name once all of the folder is on the disk: a crash leaves nothing at that name, or all that was at the old one.
 use Rattle.std.proofs.Common.{◌≡◌, Bool, true, false, ◌&&◌, ◌⊎◌, inl, inr, List, [], ◌∷◌, ◌++◌, refl, sym, ◌∙◌, ap, subst, true≢false, length, append-nil}
-use Rattle.std.specs.Prelude.{bytes_eq, cond, None, Ok, Err}
+use Rattle.std.specs.Prelude.{bytes_eq, cond, None}
 use Rattle.std.proofs.lemmas.Bool.{and_parts}
 use Rattle.svn_types.specs.Names.{Path}
 use Rattle.svn_types.specs.Paths.{child}
 use Rattle.svn_types.proofs.NameLemmas.{Name}
 use Rattle.svn_types.proofs.PathLemmas.{path_eq-same}
 use Rattle.svn_folder.specs.declared.step.Step.{Step}
-use Rattle.svn_folder.specs.declared.fault.FolderFault.{FolderFault}
 use Rattle.svn_folder.specs.declared.step.Step.TheVariants.{RenameDirectory}
 use Rattle.svn_folder.specs.declared.held.Held.{Held}
 use Rattle.svn_folder.specs.Entries.{has_directory}
 use Rattle.svn_folder.specs.States.{Seen, Place, State, seen, vacant, with_name}
-use Rattle.svn_folder.specs.Steps.{run, after, begun, copied, cleared, moved, is_in, is_none_older}
+use Rattle.svn_folder.specs.Steps.{after, begun, copied, cleared, moved, is_in, is_none_older}
 use Rattle.svn_folder.specs.Crashes.{MayLeave, OneMayLeave, RunMayLeave}
 use Rattle.svn_folder.specs.Laws.{is_firm, is_way_below, IsOnDisk}
-use Rattle.svn_folder.specs.Syncing.{IsSynced, IsSyncedPast}
-use Rattle.svn_folder.specs.Pasts.{Past, Known, Broken, IsFailure, Takes, LeftSince}
+use Rattle.svn_folder.specs.Syncing.{IsSynced}
 use Rattle.svn_folder.proofs.Firm.{stays}
 use Rattle.svn_disk_update.specs.Laws.{IsThereUnder, a_directory_is_renamed_at_once}
-use Rattle.svn_disk_update.specs.Goes.{Ends}
-use Rattle.svn_disk_update.specs.Crashes.{LeavesEither}
-use Rattle.svn_disk_update.proofs.Leaving.{free_on_disk, left_since}
+use Rattle.svn_disk_update.proofs.Leaving.{free_on_disk}
 
-same_name : (n : Name) → bytes_eq n n ≡ true
+pub same_name : (n : Name) → bytes_eq n n ≡ true
 same_name n = (and_parts (bytes_eq n n) true (path_eq-same (n ∷ []))).0
 
 -- a name that is on the disk is as it was once it is synced
@@ -114,35 +110,3 @@ renamed_at_once s m n synced other free =
       λ p on. seen_moved m n s (after (RenameDirectory m n) s) has p on,
       λ p on. on_disk_moved m n s (after (RenameDirectory m n) s) has p on,
     )
-
--- ---- of a folder of which something is known
-
-module _ (m n : Name) (old new : Past) (other : bytes_eq m n ≡ false) (synced : IsSyncedPast old) where
-  -- any step may have been taken
-  abbrev any : Step → Bool
-  any step = true
-
-  pub none_leaves : new ≡ old → LeavesEither m n old new
-  none_leaves same s steps is free left may =
-      let ends : Ends any s steps new = record { more = []; each = refl; past = inl (same ∙ is ∙ ap (Known s) (sym (append-nil steps))) } in
-      let there = free_on_disk (run s steps) n (synced s steps is) in
-      inl (stays (run s steps) (n ∷ []) left there.0 there.1 (left_since any s steps new ends left may) ∙ free)
-
-  rename_leaves : (s : State) (steps : List Step) → old ≡ Known s steps → seen (run s steps) (n ∷ []) ≡ None
-      → (new ≡ Known s (steps ++ RenameDirectory m n ∷ [])) ⊎ (new ≡ Broken s (steps ++ RenameDirectory m n ∷ []))
-      → (left : Seen) → LeftSince new (length steps) left → (left (n ∷ []) ≡ None) ⊎ IsThereUnder (run s steps) m n left
-  rename_leaves s steps is free past left may =
-      let ends : Ends any s steps new = record { more = RenameDirectory m n ∷ []; each = refl; past = past } in
-      rename_left m n (run s steps) (synced s steps is) other free left (left_since any s steps new ends left may)
-
-  pub done_leaves : (done : Unit {0}) → Takes (RenameDirectory m n) old (Ok done) new → LeavesEither m n old new
-  done_leaves done takes s steps is free left may =
-      rename_leaves s steps is free (inl (subst (λ (x : Past). Takes (RenameDirectory m n) x (Ok done) new) is takes).1) left may
-
-  pub failed_leaves : (fault : FolderFault) → Takes (RenameDirectory m n) old (Err fault) new → LeavesEither m n old new
-  failed_leaves fault takes s steps is free left may = by (subst (λ (x : Past). Takes (RenameDirectory m n) x (Err fault) new) is takes)
-    where
-      by : (new ≡ Known s steps) ⊎ (IsFailure fault × (new ≡ Broken s (steps ++ RenameDirectory m n ∷ [])))
-          → (left (n ∷ []) ≡ None) ⊎ IsThereUnder (run s steps) m n left
-      by (inl same) = none_leaves (same ∙ sym is) s steps is free left may
-      by (inr failed) = rename_leaves s steps is free (inr failed.1) left may

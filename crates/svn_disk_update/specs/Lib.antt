@@ -1,4 +1,5 @@
 pub mod Goes
 pub mod Places
+pub mod Plans
 pub mod Crashes
 pub mod Laws

@@ -1,28 +1,34 @@
 //! A working copy, made anew.
-ghost use Rattle.std.specs.Prelude.{◌≡◌, bytes_eq, codes, true, false, OnOk};
+ghost use Rattle.std.specs.Prelude.{◌≡◌, ◌∷◌, [], codes, true, false, IfOk, OnOk};
+ghost use Rattle.std.specs.List.{list_any};
+ghost use Rattle.svn_wcrows.specs.Copies.{StandsFor};
+ghost use Rattle.svn_folder.specs.declared.step.Step.TheVariants.{RenameDirectory};
+ghost use Rattle.svn_folder.specs.States.{seen};
 ghost use Rattle.svn_folder.specs.Syncing.{IsSyncedPast};
-ghost use Rattle.svn_disk_update.specs.Crashes.{IsNoCopy, Leaves, LeavesEither};
-ghost use Rattle.svn_disk_update.specs.Goes.{Goes};
-ghost use Rattle.svn_disk_update.specs.Places.{is_inside};
+ghost use Rattle.svn_disk_update.specs.Crashes.{IsWhole, IsNoneOrWhole, IsFree, IsSafe, IsLasting, Leaves, LeavesAfter, Runs};
+ghost use Rattle.svn_disk_update.specs.Goes.{Goes, Does, TakesOne, IsAlways};
+ghost use Rattle.svn_disk_update.specs.Places.{is_inside, is_reserved, is_of_copy};
+ghost use Rattle.svn_disk_update.specs.Plans.{present_nodes, work_of};
 
 use crate::carry::{carry_out, replace_database};
 use crate::fault::DiskFault;
 use crate::layout::{Admin, is_reserved};
 use crate::node_file::file_of;
+use crate::contents::Contents;
 use crate::prepared::{Prepared, prepare};
 use crate::read_back::read_back;
 use crate::settle::settle;
 use crate::source::Source;
+use crate::steps::take;
 use crate::texts::Texts;
 use std::alloc::{AllocError, Global};
 use svn_folder::{Entry, Folder, Mode, Step, SyncedFolder};
 use svn_model::BaseNode;
-use svn_types::{Name, RelPath, Text};
+use svn_types::{RelPath, Text};
 use svn_wc::WorkingCopy;
 use svn_wcdb::TableRow;
 use svn_wcrows::{
-    LastChange, Numbers, Owner, Recorded, Tables, Work, lock_row, node_record, work_rows,
-    write_copy,
+    LastChange, Numbers, Owner, Recorded, Tables, lock_row, node_record, work_rows, write_copy,
 };
 
 /// The numbers of a copy that is made anew.
@@ -57,8 +63,6 @@ pub struct Checkout<'a> {
 struct Progress {
     tables: Tables,
     texts: Texts,
-    nodes: Vec<(RelPath, BaseNode)>,
-    work: Vec<Work>,
     // How many files have names of their own.
     files: usize,
 }
@@ -81,7 +85,9 @@ struct Making<'a> {
 }
 
 /// Refuses a copy with a node named as the administrative folder is, whose files would come to lie in it: Reserved. Subversion refuses it too.
-pub fn refuse_reserved(copy: &WorkingCopy) -> Result<(), DiskFault> {
+pub fn refuse_reserved(copy: &WorkingCopy) -> Result<(), DiskFault>
+    ensures { OnOk result (list_any (λ entry. is_reserved entry.0) copy.now ≡ false) }
+{
     for (path, _) in copy.iter() {
         if is_reserved(path) {
             return Err(DiskFault::Reserved(path.clone()?));
@@ -141,8 +147,6 @@ impl Progress {
         Ok(Progress {
             tables: Tables::new(alloc, what.url, what.uuid)?,
             texts: Texts::new(alloc),
-            nodes: Vec::new(alloc),
-            work: Vec::new(alloc),
             files: 0,
         })
     }
@@ -170,9 +174,8 @@ impl Progress {
             },
         };
         let bytes = node_record(making.alloc, OWNER, path, node, &recorded)?;
-        let rowid = self.nodes.len() as u64 + 1;
+        let rowid = (self.tables.nodes.len() as u64).saturating_add(1);
         self.tables.nodes.push(TableRow { rowid, bytes })?;
-        self.nodes.push((path.clone()?, node.clone()?))?;
         Ok(())
     }
 }
@@ -215,12 +218,11 @@ fn prepare_file<F: Folder, S: Source>(
     let is_file = prepare(making.alloc, folder, making.admin, progress.files, &file)?;
     let size = if is_file { Some(size) } else { None };
     progress.push_row(making, source, entry, size)?;
-    progress.work.push(Work::InstallFile(path.clone()?))?;
     progress.files = progress.files.saturating_add(1);
     Ok(())
 }
 
-// Prepares a node: a file, or the work that a directory is.
+// Prepares a node: a file. A directory has a row alone.
 fn prepare_node<F: Folder, S: Source>(
     making: &Making<'_>,
     folder: &mut F,
@@ -230,15 +232,11 @@ fn prepare_node<F: Folder, S: Source>(
 ) -> Result<(), DiskFault>
     ensures { Goes (is_inside making.now.admin.now.name) (F.past folder.old) result (F.past folder.new) }
 {
-    let (path, node) = entry;
+    let (_, node) = entry;
     if !node.is_directory() {
         return prepare_file(making, folder, source, progress, entry);
     }
-    progress.push_row(making, source, entry, None)?;
-    if !path.is_root() {
-        progress.work.push(Work::MakeDirectory(path.clone()?))?;
-    }
-    Ok(())
+    progress.push_row(making, source, entry, None)
 }
 
 // Brings the texts to the folder, and each file under a name of its own.
@@ -259,9 +257,15 @@ fn prepare_all<F: Folder, S: Source>(
 }
 
 // The database of a copy with work to do, which keeps clients from it.
-fn image_with_work(alloc: Global, progress: &mut Progress) -> Result<Vec<u8>, DiskFault> {
-    progress.tables.work_queue = work_rows(alloc, &progress.work, 0)?;
-    progress.tables.last_work = progress.work.len() as u64;
+fn image_with_work(
+    alloc: Global,
+    progress: &mut Progress,
+    contents: &Contents,
+) -> Result<Vec<u8>, DiskFault>
+    ensures { IfOk result (λ image. StandsFor contents.now.nodes.items image.items) }
+{
+    progress.tables.work_queue = work_rows(alloc, &contents.work, 0)?;
+    progress.tables.last_work = contents.work.len() as u64;
     let mut locks = Vec::new(alloc);
     locks.push(lock_row(alloc, OWNER)?)?;
     progress.tables.wc_lock = locks;
@@ -269,15 +273,21 @@ fn image_with_work(alloc: Global, progress: &mut Progress) -> Result<Vec<u8>, Di
         alloc,
         &progress.tables,
         Numbers::with_work(1),
-        &progress.nodes,
+        &contents.nodes,
     )?)
 }
 
 // The database of a copy with no work left.
-fn image_at_end(alloc: Global, progress: &mut Progress) -> Result<Vec<u8>, DiskFault> {
+fn image_at_end(
+    alloc: Global,
+    progress: &mut Progress,
+    contents: &Contents,
+) -> Result<Vec<u8>, DiskFault>
+    ensures { IfOk result (λ image. StandsFor contents.now.nodes.items image.items) }
+{
     progress.tables.work_queue = Vec::new(alloc);
     progress.tables.wc_lock = Vec::new(alloc);
-    Ok(write_copy(alloc, &progress.tables, Numbers::at_end(2), &progress.nodes)?)
+    Ok(write_copy(alloc, &progress.tables, Numbers::at_end(2), &contents.nodes)?)
 }
 
 // Makes all of the copy that is in the administrative folder, and each file under a name of its own.
@@ -286,9 +296,11 @@ fn lay_out<F: Folder, S: Source>(
     folder: &mut F,
     source: &mut S,
     what: &Checkout<'_>,
+    contents: &Contents,
     admin: &Admin,
 ) -> Result<LaidOut, DiskFault>
-    ensures { Goes (is_inside admin.now.name) (F.past folder.old) result (F.past folder.new) }
+    ensures steps { Goes (is_inside admin.now.name) (F.past folder.old) result (F.past folder.new) }
+    ensures image { IfOk result (λ laid. StandsFor contents.now.nodes.items laid.image) }
 {
     make_admin(alloc, folder, admin)?;
     let making = Making {
@@ -298,41 +310,79 @@ fn lay_out<F: Folder, S: Source>(
         time: what.time,
     };
     let mut progress = prepare_all(&making, folder, source, what)?;
-    let image = Text::new(image_with_work(alloc, &mut progress)?);
+    let image = Text::new(image_with_work(alloc, &mut progress, contents)?);
     let database = Entry::File(image.clone()?, Mode::PLAIN);
     admin.make(folder, admin.database(alloc)?, database)?;
     Ok(LaidOut { progress, image })
 }
 
-// The same, and all of it is on the disk and was read back. Up to then a crash leaves no copy.
+// The same, and all of it is on the disk and was read back.
 fn lay_out_on_disk<F: Folder, S: Source>(
     alloc: Global,
     folder: &mut SyncedFolder<F>,
     source: &mut S,
     what: &Checkout<'_>,
+    contents: &Contents,
     admin: &Admin,
 ) -> Result<Progress, DiskFault>
-    requires { bytes_eq admin.now.name (codes ".svn") ≡ false }
-    ensures crash { Leaves IsNoCopy (F.past folder.old.folder) (F.past folder.new.folder) }
+    requires { contents.now.nodes.items ≡ present_nodes what.now.copy.now }
+    ensures steps { Goes (is_inside admin.now.name) (F.past folder.old.folder) result (F.past folder.new.folder) }
     ensures synced { what.now.sync ≡ true → OnOk result (IsSyncedPast (F.past folder.new.folder)) }
+    ensures whole { OnOk result (IsAlways (λ s. IsWhole admin.now.name what.now.copy.now (seen s)) (F.past folder.new.folder)) }
 {
-    let LaidOut { progress, image } = lay_out(alloc, folder, source, what, admin)?;
+    let LaidOut { progress, image } = lay_out(alloc, folder, source, what, contents, admin)?;
     settle(alloc, folder, what.sync)?;
     read_back(alloc, folder, admin, what.copy, &image)?;
     Ok(progress)
 }
 
-// The administrative folder gets its name. A crash leaves nothing there, or all that was at the old one.
-fn name_folder<F: Folder>(
-    folder: &mut SyncedFolder<F>,
-    from: Name,
-    to: Name,
-) -> Result<(), DiskFault>
-    requires { bytes_eq from to ≡ false }
-    ensures { IsSyncedPast (F.past folder.old.folder) → LeavesEither from to (F.past folder.old.folder) (F.past folder.new.folder) }
+// The administrative folder gets its name.
+fn name_folder<F: Folder>(alloc: Global, folder: &mut F) -> Result<(), DiskFault>
+    ensures does { Does (RenameDirectory (codes ".svn-new") (codes ".svn") ∷ []) (F.past folder.old) result (F.past folder.new) }
+    ensures one { TakesOne (RenameDirectory (codes ".svn-new") (codes ".svn")) (F.past folder.old) result (F.past folder.new) }
 {
-    folder.take(Step::RenameDirectory { from, to })?;
-    Ok(())
+    let from = Admin::of_new(alloc)?.name.clone()?;
+    let to = Admin::of_copy(alloc)?.name.clone()?;
+    take(folder, Step::RenameDirectory { from, to })
+}
+
+// Makes the copy, with work left. Returns the database that it has once the work is done.
+fn make_copy<F: Folder, S: Source>(
+    alloc: Global,
+    folder: &mut SyncedFolder<F>,
+    source: &mut S,
+    what: &Checkout<'_>,
+    contents: &Contents,
+) -> Result<Vec<u8>, DiskFault>
+    requires { contents.now.nodes.items ≡ present_nodes what.now.copy.now }
+    ensures steps { Goes (is_of_copy what.now.copy.now) (F.past folder.old.folder) result (F.past folder.new.folder) }
+    ensures crash { what.now.sync ≡ true → Runs IsFree (IsNoneOrWhole what.now.copy.now) (IsSafe what.now.copy.now) (F.past folder.old.folder) result (F.past folder.new.folder) }
+    ensures image { IfOk result (λ image. StandsFor (present_nodes what.now.copy.now) image.items) }
+{
+    let admin = Admin::of_new(alloc)?;
+    let mut progress = lay_out_on_disk(alloc, folder, source, what, contents, &admin)?;
+    let end = image_at_end(alloc, &mut progress, contents)?;
+    name_folder(alloc, folder)?;
+    Ok(end)
+}
+
+// Does the work of a copy that was made, and puts the database without it in place of the other.
+fn finish_copy<F: Folder>(
+    alloc: Global,
+    folder: &mut F,
+    what: &Checkout<'_>,
+    contents: &Contents,
+    end: Vec<u8>,
+) -> Result<(), DiskFault>
+    requires reserved { list_any (λ entry. is_reserved entry.0) what.now.copy.now ≡ false }
+    requires work { contents.now.work.items ≡ work_of what.now.copy.now }
+    requires image { StandsFor (present_nodes what.now.copy.now) end.items }
+    ensures steps { Goes (is_of_copy what.now.copy.now) (F.past folder.old) result (F.past folder.new) }
+    ensures crash { what.now.sync ≡ true → Runs (IsSafe what.now.copy.now) (IsNoneOrWhole what.now.copy.now) (IsLasting what.now.copy.now) (F.past folder.old) result (F.past folder.new) }
+{
+    let admin = Admin::of_copy(alloc)?;
+    carry_out(alloc, folder, &admin, &contents.work, what.sync)?;
+    replace_database(alloc, folder, &admin, end, what.sync)
 }
 
 /// Refuses what [`check_out`] refuses of a copy and a folder before it changes anything: Reserved, ACopy, CutOff, InTheWay, Folder, Memory. Nothing may be
@@ -351,20 +401,20 @@ pub fn refuse_check_out<F: Folder>(
 /// Refused before anything is changed: Reserved at the first node named `.svn`, ACopy where the folder is a working copy's, CutOff where a checkout was
 /// cut off, InTheWay at the first path of the copy in the folder itself that is taken. Then NoText at the first file whose text isn't given, NoStandIn
 /// where a text is no stand-in by SHA-1, Folder where a step fails, Rows, Path and Memory. Before the administrative folder has its name there is no
-/// copy; from then on there is the whole copy, with work left that `svn cleanup` does too.
+/// copy; from then on there is the whole copy, with work left that `svn cleanup` does too: with `sync`, whenever the program or the power stops.
 pub fn check_out<F: Folder, S: Source>(
     alloc: Global,
     folder: &mut SyncedFolder<F>,
     source: &mut S,
     what: &Checkout<'_>,
-) -> Result<(), DiskFault> {
+) -> Result<(), DiskFault>
+    ensures steps { Goes (is_of_copy what.now.copy.now) (F.past folder.old.folder) result (F.past folder.new.folder) }
+    ensures crash { what.now.sync ≡ true → Leaves (IsNoneOrWhole what.now.copy.now) (F.past folder.old.folder) (F.past folder.new.folder) }
+    ensures after { what.now.sync ≡ true → OnOk result (LeavesAfter (IsWhole (codes ".svn") what.now.copy.now) (F.past folder.old.folder) (F.past folder.new.folder)) }
+{
     refuse_reserved(what.copy)?;
     refuse_taken(alloc, folder, what.copy)?;
-    let new = Admin::of_new(alloc)?;
-    let mut progress = lay_out_on_disk(alloc, folder, source, what, &new)?;
-    let end = image_at_end(alloc, &mut progress)?;
-    let admin = Admin::of_copy(alloc)?;
-    name_folder(folder, new.name.clone()?, admin.name.clone()?)?;
-    carry_out(alloc, folder, &admin, &progress.work, what.sync)?;
-    replace_database(alloc, folder, &admin, end, what.sync)
+    let contents = Contents::of(alloc, what.copy)?;
+    let end = make_copy(alloc, folder, source, what, &contents)?;
+    finish_copy(alloc, folder, what, &contents, end)
 }

@@ -1,7 +1,7 @@
 //! Where a working copy keeps what it knows: the names below `.svn`.
 ghost use Rattle.std.specs.Prelude.{◌≡◌, ◌∷◌, ◌++◌, [], IfOk, codes};
 ghost use Rattle.svn_types.specs.Names.{path_of_text};
-ghost use Rattle.svn_disk_update.specs.Places.{text_place, database_place, IsTemporary};
+ghost use Rattle.svn_disk_update.specs.Places.{text_place, database_place, new_database_place, temporary_place, is_reserved, IsTemporary};
 
 use crate::fault::DiskFault;
 use std::alloc::Global;
@@ -22,7 +22,9 @@ const NAME: &str = ".svn";
 const NEW: &str = ".svn-new";
 
 /// Whether a path has the name of the administrative folder in it.
-pub(crate) fn is_reserved(path: &RelPath) -> bool {
+pub(crate) fn is_reserved(path: &RelPath) -> bool
+    ensures { result ≡ is_reserved path.now }
+{
     path.components().iter().any(|name| name.as_str() == NAME)
 }
 
@@ -76,14 +78,14 @@ impl Admin {
 
     /// The database, before it has its name.
     pub(crate) fn new_database(&self, alloc: Global) -> Result<RelPath, DiskFault>
-        ensures { IfOk result (λ p. p ≡ self.now.name ∷ codes "tmp" ∷ codes "new-wc.db" ∷ []) }
+        ensures { IfOk result (λ p. p ≡ new_database_place self.now.name) }
     {
         self.path(alloc, "tmp/new-wc.db")
     }
 
     /// The folder of what has no name yet.
     pub(crate) fn temporary(&self, alloc: Global) -> Result<RelPath, DiskFault>
-        ensures { IfOk result (λ p. p ≡ self.now.name ∷ codes "tmp" ∷ []) }
+        ensures { IfOk result (λ p. p ≡ temporary_place self.now.name) }
     {
         self.path(alloc, "tmp")
     }

@@ -25,7 +25,7 @@
 //! | `normal`, `node_file` | texts without values of keywords, and with other line ends; what a file is on disk, by its text and properties |
 //! | `source`, `texts`, `prepared`, `read_back` | where texts come from; pristine texts; files under names of their own; what was written, read back |
 //! | `inherited` | the properties that a copy's root inherits |
-//! | `carry` | the work of a new copy, done |
+//! | `contents`, `carry` | what is written of a new copy; its work, done |
 //! | `checkout` | a new copy |
 //! | `existing`, `clearing`, `completion` | one that is on disk; what was cut off before there was one; what was cut off, completed |
 //! | `above`, `plan`, `wanted` | the directories above a path; what becomes of each path between two copies; what a copy is brought to |
@@ -33,17 +33,18 @@
 //! | `task`, `known`, `doing`, `database_image` | the work that is left; the texts by which a file is nobody's edit; the work, done; the databases that follow |
 //! | `rows`, `temporary`, `bring` | rows of a changed copy; what an earlier run left; a copy on disk, brought to another state |
 //! | `truth`, `mending` | what of a copy is untrue, put right; the same on disk |
-//! | `laws` | what the crash theorem rests on |
+//! | `laws` | what the crash theorem rests on, of a rename |
 //!
-//! Definitions, in the order of reading: `specs/Goes.antt` (which steps a call takes), `Places.antt` (where they are), `Laws.antt`, `Crashes.antt` (what a
-//! crash during a checkout leaves).
+//! Definitions, in the order of reading: `specs/Goes.antt` (which steps a call takes), `Places.antt` (where they are), `Plans.antt` (what is written of a
+//! copy), `Crashes.antt` (what a crash during a checkout leaves), `Laws.antt`.
 //!
-//! Promises: every function is safe and returns. The databases are made by `write_copy` of `svn_wcrows`, which returns bytes only if the nodes of the copy
-//! are read from them. Until the administrative folder of a checkout gets its name, each step is inside of the folder `.svn-new`, or is a sync
-//! (`is_inside`), and a crash leaves no copy (`IsNoCopy`). It gets its name only once all is on the disk. A crash then leaves nothing at that name, or all
-//! that was at the old one (`LeavesEither`). The database is replaced by steps inside of the administrative folder alone. What a crash leaves while the
-//! work of the new copy is done is tested by `test_disk` at each step, and not yet proved. The copy that [`mended`] returns is true of the repository
-//! (`IsTrueOf`); what `mend` then leaves on disk, and what it refuses, is tested.
+//! Promises: every function is safe and returns. Each step of [`check_out`] is inside of `.svn-new` or `.svn`, is the rename of the one to the other, or
+//! makes or places a node of the copy (`is_of_copy`), so that nothing else is changed (`a_checkout_changes_nothing_else`). With `sync`, in a folder that is all on the disk and has no copy, a crash
+//! at any moment of it leaves no copy, or the whole one (`Leaves`, `IsNoneOrWhole`), and once it has returned Ok the whole one (`LeavesAfter`): at
+//! `.svn/wc.db` a file whose bytes stand for a copy with just these nodes, and of each file the pristine text, by its checksum (`IsWhole`). A crash is one
+//! of `svn_folder`, so this is said of folders whose steps are known; of a folder of the system no contract speaks. Not proved, and tested by `test_disk`
+//! at each step: that the files of the copy are at their places in the end, and what [`resume`] and [`mend`] do. The copy that [`mended`] returns is
+//! true of the repository (`IsTrueOf`).
 #![tactic(auto)]
 
 mod above;
@@ -52,6 +53,7 @@ mod carry;
 mod checkout;
 mod clearing;
 mod completion;
+mod contents;
 mod database_image;
 mod doing;
 mod existing;
@@ -84,7 +86,7 @@ pub use checkout::{Checkout, check_out, refuse_check_out, refuse_reserved};
 pub use completion::{Resumed, resume};
 pub use fault::{DiskFault, OtherRepository};
 pub use inherited::inherited_props;
-pub use laws::a_directory_is_renamed_at_once;
+pub use laws::{a_checkout_changes_nothing_else, a_directory_is_renamed_at_once};
 pub use mending::{Remedy, mend, mend_changes};
 pub use plan::{Change, PathChange};
 pub use source::{Source, TextSums};

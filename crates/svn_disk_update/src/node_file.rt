@@ -1,4 +1,7 @@
 //! What a file of a working copy is on disk, by its text and its properties (`svn_props.h`).
+ghost use Rattle.std.specs.Prelude.{◌≡◌};
+ghost use Rattle.std.specs.Option.{option_map};
+ghost use Rattle.svn_disk_update.specs.Plans.{text_of_node};
 
 use crate::normal::{Keywords, with_line_ends, without_values};
 use std::alloc::{AllocError, Global};
@@ -66,7 +69,9 @@ pub(crate) fn link_target(alloc: Global, text: &Text) -> Result<Option<Text>, Al
 }
 
 /// The stand-in of a file's text and its properties; none of what is no file.
-pub(crate) fn file_of(node: &BaseNode) -> Option<(&Text, &Props)> {
+pub(crate) fn file_of(node: &BaseNode) -> Option<(&Text, &Props)>
+    ensures { option_map (λ file. file.0.now) result ≡ text_of_node node.now }
+{
     match node {
         BaseNode::File { text, props, .. } => Some((text, props)),
         BaseNode::Dir { .. } | BaseNode::NotPresent => None,

@@ -2,7 +2,7 @@
 ghost use Rattle.std.specs.Prelude.{◌≡◌, true, OnOk};
 ghost use Rattle.svn_folder.specs.Syncing.{IsSyncedPast};
 ghost use Rattle.svn_disk_update.specs.Goes.{Goes};
-ghost use Rattle.svn_disk_update.specs.Places.{is_sync};
+ghost use Rattle.svn_folder.specs.Files.{is_sync};
 
 use crate::fault::DiskFault;
 use std::alloc::Global;

@@ -1,8 +1,8 @@
 //! Steps that belong together.
-ghost use Rattle.std.specs.Prelude.{◌∷◌, [], None};
+ghost use Rattle.std.specs.Prelude.{◌≡◌, ◌∷◌, [], true, None};
 ghost use Rattle.svn_folder.specs.declared.entry.Entry.TheVariants as entry;
 ghost use Rattle.svn_folder.specs.declared.step.Step.TheVariants as step;
-ghost use Rattle.svn_disk_update.specs.Goes.{Does};
+ghost use Rattle.svn_disk_update.specs.Goes.{Does, TakesOne};
 
 use crate::fault::DiskFault;
 use std::alloc::Global;
@@ -11,15 +11,33 @@ use svn_types::RelPath;
 
 /// Takes a step.
 pub(crate) fn take<F: Folder>(folder: &mut F, step: Step) -> Result<(), DiskFault>
-    ensures { Does (step ∷ []) (F.past folder.old) result (F.past folder.new) }
+    ensures does { Does (step ∷ []) (F.past folder.old) result (F.past folder.new) }
+    ensures one { TakesOne step (F.past folder.old) result (F.past folder.new) }
 {
     Ok(folder.take(step)?)
 }
 
+/// Takes a step that brings something to the disk, if that is asked for.
+#[tactic(auto, using(crate::proofs::Going::keeps_none))]
+pub(crate) fn take_if<F: Folder>(folder: &mut F, step: Step, sync: bool) -> Result<(), DiskFault>
+    ensures does { Does (step ∷ []) (F.past folder.old) result (F.past folder.new) }
+    ensures one { sync ≡ true → TakesOne step (F.past folder.old) result (F.past folder.new) }
+{
+    if !sync {
+        return Ok(());
+    }
+    take(folder, step)
+}
+
 /// Makes an entry, whose time is that of the step.
 #[tactic(auto, using(crate::proofs::Going::keeps_more, crate::proofs::Going::stops_more, crate::proofs::Going::stops_there, crate::proofs::Going::stops_none))]
-pub(crate) fn make<F: Folder>(folder: &mut F, path: RelPath, entry: Entry) -> Result<(), DiskFault>
-    ensures { Does (step.Make path entry None ∷ []) (F.past folder.old) result (F.past folder.new) }
+pub(crate) fn make<F: Folder>(
+    folder: &mut F,
+    path: RelPath,
+    entry: Entry,
+) -> Result<(), DiskFault>
+    ensures does { Does (step.Make path entry None ∷ []) (F.past folder.old) result (F.past folder.new) }
+    ensures one { TakesOne (step.Make path entry None) (F.past folder.old) result (F.past folder.new) }
 {
     let modified = None;
     take(
@@ -69,7 +87,8 @@ pub(crate) fn rename<F: Folder>(
     from: &RelPath,
     to: &RelPath,
 ) -> Result<(), DiskFault>
-    ensures { Does (step.Rename from.now to.now ∷ []) (F.past folder.old) result (F.past folder.new) }
+    ensures does { Does (step.Rename from.now to.now ∷ []) (F.past folder.old) result (F.past folder.new) }
+    ensures one { TakesOne (step.Rename from.now to.now) (F.past folder.old) result (F.past folder.new) }
 {
     take(
         folder,

@@ -1,6 +1,10 @@
 //! Pristine texts, brought to disk.
-ghost use Rattle.svn_disk_update.specs.Goes.{Goes};
-ghost use Rattle.svn_disk_update.specs.Places.{is_inside};
+ghost use Rattle.std.specs.Prelude.{◌≡◌, true, IfOk};
+ghost use Rattle.svn_digits.specs.StandIns.{stand_in_of};
+ghost use Rattle.svn_folder.specs.States.{seen};
+ghost use Rattle.svn_disk_update.specs.Goes.{Goes, IsAlways};
+ghost use Rattle.svn_disk_update.specs.Places.{is_inside, text_place};
+ghost use Rattle.svn_disk_update.specs.Crashes.{HasSum, IsTextOf};
 
 use crate::fault::DiskFault;
 use crate::layout::Admin;
@@ -20,7 +24,9 @@ const PRISTINE: Mode = Mode {
 };
 
 /// The checksum that a stand-in is of. NoStandIn where it is none.
-pub(crate) fn sum_of(alloc: Global, name: &Text) -> Result<Sha1Sum, DiskFault> {
+pub(crate) fn sum_of(alloc: Global, name: &Text) -> Result<Sha1Sum, DiskFault>
+    ensures { IfOk result (λ sum. stand_in_of sum ≡ name.now) }
+{
     let Some(digits) = name.as_slice().strip_prefix(b"$sha1$") else {
         return Err(DiskFault::NoStandIn);
     };
@@ -36,18 +42,31 @@ pub(crate) fn sum_of(alloc: Global, name: &Text) -> Result<Sha1Sum, DiskFault> {
     }
 }
 
+// Whether it is a file with this checksum.
+fn has_sum(found: &Summary, sum: &Sha1Sum) -> bool
+    ensures { result ≡ true → HasSum sum.now found.now }
+{
+    match found {
+        Summary::File { sha1, .. } => sha1 == sum,
+        Summary::Directory | Summary::Link(_) => false,
+    }
+}
+
 /// Whether a text is in the folder under its name: a file with the checksum that its stand-in says.
 pub(crate) fn has_text<F: Folder>(
     alloc: Global,
     folder: &F,
     admin: &Admin,
     name: &Text,
-) -> Result<bool, DiskFault> {
+) -> Result<bool, DiskFault>
+    ensures { IfOk result (λ has. has ≡ true → IsAlways (λ s. IsTextOf name.now (seen s (text_place admin.now.name name.now))) (F.past folder.now)) }
+{
     let place = admin.text(alloc, name.as_slice())?;
-    Ok(match folder.sum(alloc, &place)? {
-        Some(Summary::File { sha1, .. }) => sha1 == sum_of(alloc, name)?,
-        _ => false,
-    })
+    let sum = sum_of(alloc, name)?;
+    match folder.sum(alloc, &place)? {
+        Some(found) => Ok(has_sum(&found, &sum)),
+        None => Ok(false),
+    }
 }
 
 /// The texts that a copy keeps: their sizes in bytes, by their checksums.

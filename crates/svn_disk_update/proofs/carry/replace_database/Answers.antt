@@ -1,15 +1,17 @@
 use Rattle.std.proofs.Common.{rules}
-use Rattle.svn_disk_update.proofs.Going.{keeps_more, stops_more, goes_more}
+use Rattle.svn_disk_update.specs.Crashes.{IsLasting}
+use Rattle.svn_disk_update.proofs.Going.{goes_more}
+use Rattle.svn_disk_update.proofs.Running.{runs_more}
 use Rattle.svn_disk_update.proofs.carry.replace_database.Goals as goal
 
-pub returns-in_err-make_synced : goal.returns-in_err-make_synced
-returns-in_err-make_synced g c = let stops = stops_more c.in_ok-remove_if_any.ensures.0 c.in_err-make_synced.ensures.1 in search rules
+pub returns-in_err-make_database-clause-crash : goal.returns-in_err-make_database-clause-crash
+returns-in_err-make_database-clause-crash g c = λ sync is copy stands. let stops = (c.in_err-make_database.ensures.crash sync is copy stands).1 in search rules
 
-pub returns-in_err-rename : goal.returns-in_err-rename
-returns-in_err-rename g c =
-    let stops = stops_more (keeps_more c.in_ok-remove_if_any.ensures.0 c.in_ok-make_synced.ensures.0) c.in_err-rename.ensures.1 in search rules
+pub returns-clause-steps : goal.returns-clause-steps
+returns-clause-steps g c =
+    goes_more (g.F.Folder.past c.put_database.new.folder) c.put_database.result c.in_ok-make_database.ensures.steps.0 c.put_database.ensures.steps
 
-pub returns : goal.returns
-returns g c =
-    goes_more _ c.sync_directory.result (keeps_more (keeps_more c.in_ok-remove_if_any.ensures.0 c.in_ok-make_synced.ensures.0) c.in_ok-rename.ensures.0)
-    c.sync_directory.ensures
+pub returns-clause-crash : goal.returns-clause-crash
+returns-clause-crash g c = λ sync is copy stands.
+    runs_more (IsLasting copy) (g.F.Folder.past c.put_database.new.folder) c.put_database.result
+    (c.in_ok-make_database.ensures.crash sync is copy stands).0 (c.put_database.ensures.crash sync is copy)

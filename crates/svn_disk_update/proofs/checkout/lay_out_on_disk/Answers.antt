@@ -1,17 +1,33 @@
-use Rattle.svn_disk_update.proofs.Leaving.{goes_no_copy}
+use Rattle.std.proofs.Common.{List, ℕ, subst, ◌∙◌, rules}
+use Rattle.svn_types.specs.Names.{Path}
+use Rattle.svn_model.specs.declared.base_node.BaseNode.{BaseNode}
+use Rattle.svn_wcrows.specs.Copies.{StandsFor}
+use Rattle.svn_folder.specs.Files.{is_sync}
+use Rattle.svn_disk_update.specs.Places.{is_inside}
+use Rattle.svn_disk_update.proofs.Going.{keeps_more, stops_more, stops_there, keeps_wider, stops_wider}
+use Rattle.svn_disk_update.proofs.Placing.{sync_inside}
 use Rattle.svn_disk_update.proofs.checkout.lay_out_on_disk.Goals as goal
 
-pub returns-in_err-progress-clause-crash : goal.returns-in_err-progress-clause-crash
-returns-in_err-progress-clause-crash g c =
-    goes_no_copy c.args.admin.now.name (g.F.Folder.past c.args.folder.now.folder) (g.F.Folder.past c.lay_out.new.folder.folder) c.lay_out.result c.requires
-    c.lay_out.ensures
+pub read_back-requires : goal.read_back-requires
+read_back-requires g c = subst (λ (nodes : List (Path × BaseNode)). StandsFor nodes c.in_ok-lay_out.image) c.requires c.in_ok-lay_out.ensures.image
 
-pub returns-then-not-is_synced-clause-crash : goal.returns-then-not-is_synced-clause-crash
-returns-then-not-is_synced-clause-crash g c =
-    goes_no_copy c.args.admin.now.name (g.F.Folder.past c.args.folder.now.folder) (g.F.Folder.past c.lay_out.new.folder.folder) c.lay_out.result c.requires
-    c.lay_out.ensures
+pub returns-in_err-settle-clause-steps : goal.returns-in_err-settle-clause-steps
+returns-in_err-settle-clause-steps g c =
+    let n = c.args.admin.now.name in
+    let stops = stops_more c.in_ok-lay_out.ensures.steps.0
+    (stops_wider is_sync (is_inside n) (sync_inside n) (g.F.Folder.past c.lay_out.new.folder.folder) (g.F.Folder.past c.settle.new.folder.folder)
+    c.in_err-settle.ensures.steps.1) in search rules
 
-pub returns-clause-crash : goal.returns-clause-crash
-returns-clause-crash g c =
-    goes_no_copy c.args.admin.now.name (g.F.Folder.past c.args.folder.now.folder) (g.F.Folder.past c.lay_out.new.folder.folder) c.lay_out.result c.requires
-    c.lay_out.ensures
+pub returns-in_err-read_back-clause-steps : goal.returns-in_err-read_back-clause-steps
+returns-in_err-read_back-clause-steps g c =
+    let n = c.args.admin.now.name in
+    let stops = stops_there (keeps_more c.in_ok-lay_out.ensures.steps.0
+    (keeps_wider is_sync (is_inside n) (sync_inside n) (g.F.Folder.past c.lay_out.new.folder.folder) (g.F.Folder.past c.settle.new.folder.folder)
+    c.in_ok-settle.ensures.steps.0)) in search rules
+
+pub returns-clause-steps : goal.returns-clause-steps
+returns-clause-steps g c =
+    let n = c.args.admin.now.name in
+    (keeps_more c.in_ok-lay_out.ensures.steps.0
+    (keeps_wider is_sync (is_inside n) (sync_inside n) (g.F.Folder.past c.lay_out.new.folder.folder) (g.F.Folder.past c.settle.new.folder.folder)
+    c.in_ok-settle.ensures.steps.0), tt)

@@ -1,12 +1,12 @@
 use Rattle.std.proofs.Common.{rules}
-use Rattle.svn_disk_update.proofs.Going.{stops_there}
+use Rattle.svn_disk_update.proofs.Going.{keeps_more, stops_more, stops_there}
 use Rattle.svn_disk_update.proofs.checkout.prepare_file.Goals as goal
 
+pub returns-in_err-is_file : goal.returns-in_err-is_file
+returns-in_err-is_file g c = let stops = stops_more c.in_ok-size.ensures.0 c.in_err-is_file.ensures.1 in search rules
+
 pub returns-in_err-push_row : goal.returns-in_err-push_row
-returns-in_err-push_row g c = let stops = stops_there c.in_ok-size.ensures.0 in search rules
+returns-in_err-push_row g c = let stops = stops_there (keeps_more c.in_ok-size.ensures.0 c.in_ok-is_file.ensures.0) in search rules
 
-pub returns-in_err-clone : goal.returns-in_err-clone
-returns-in_err-clone g c = let stops = stops_there c.in_ok-size.ensures.0 in search rules
-
-pub returns-in_err-push : goal.returns-in_err-push
-returns-in_err-push g c = let stops = stops_there c.in_ok-size.ensures.0 in search rules
+pub returns : goal.returns
+returns g c = (keeps_more c.in_ok-size.ensures.0 c.in_ok-is_file.ensures.0, tt)

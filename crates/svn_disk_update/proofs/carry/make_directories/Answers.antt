@@ -1,0 +1,8 @@
+use Rattle.svn_disk_update.specs.Plans.{path_of}
+use Rattle.svn_disk_update.proofs.carry.make_directories.Goals as goal
+
+pub returns-in_err-make_one : goal.returns-in_err-make_one
+returns-in_err-make_one g c = ?
+
+pub loop-item-preserved : goal.loop-item-preserved
+loop-item-preserved g c = ?
