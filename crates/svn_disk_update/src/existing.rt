@@ -3,13 +3,14 @@
 use crate::database_image::Images;
 use crate::fault::DiskFault;
 use crate::layout::Admin;
+use crate::on_disk::bytes_at;
 use std::alloc::Global;
 use std::collections::{BTreeMap, BTreeSet};
-use svn_folder::{Entry, Folder};
+use svn_folder::Folder;
 use svn_model::BaseNode;
 use svn_types::{RelPath, Text};
 use svn_wc::WorkingCopy;
-use svn_wcdb::{TableRow, read_base_tree};
+use svn_wcdb::{BaseTree, Origin, TableRow, read_base_tree};
 use svn_wcrows::{Numbers, Owner, Tables, number_at, numbers_of, read_tables, text_at};
 
 /// The columns of NODES that are looked at, as they are in the schema.
@@ -111,9 +112,14 @@ pub(crate) fn refuse_journal<F: Folder>(
     folder: &F,
     admin: &Admin,
 ) -> Result<(), DiskFault> {
-    match folder.look(alloc, &admin.journal(alloc)?)? {
-        Some(Entry::File(bytes, _)) if !bytes.is_empty() => Err(DiskFault::Journal),
-        _ => Ok(()),
+    let journal = admin.journal(alloc)?;
+    let Some(bytes) = bytes_at(alloc, folder, &journal)? else {
+        return Ok(());
+    };
+    if bytes.is_empty() {
+        Ok(())
+    } else {
+        Err(DiskFault::Journal)
     }
 }
 
@@ -121,18 +127,20 @@ impl Existing {
     /// Reads the copy that a folder has. NoCopy where it has none; Journal; Database and Rows where it can't be read.
     pub(crate) fn read<F: Folder>(alloc: Global, folder: &F) -> Result<Existing, DiskFault> {
         let admin = Admin::of_copy(alloc)?;
-        let Some(Entry::File(database, _)) = folder.look(alloc, &admin.database(alloc)?)? else {
+        let path = admin.database(alloc)?;
+        let Some(database) = bytes_at(alloc, folder, &path)? else {
             return Err(DiskFault::NoCopy);
         };
         refuse_journal(alloc, folder, &admin)?;
-        let tree = read_base_tree(alloc, database.as_slice())?;
+        let BaseTree { origin, nodes, .. } = read_base_tree(alloc, database.as_slice())?;
+        let Origin { uuid, .. } = origin;
         let tables = read_tables(alloc, database.as_slice())?;
         Ok(Existing {
             numbers: numbers_of(database.as_slice()),
             owner: owner_of(&tables)?,
-            uuid: tree.origin.uuid,
-            copy: WorkingCopy::from_nodes(alloc, tree.nodes.clone()?)?,
-            nodes: tree.nodes,
+            uuid,
+            copy: WorkingCopy::from_nodes(alloc, nodes.clone()?)?,
+            nodes,
             places: places_of(alloc, &tables.nodes)?,
             locked: locked_in(alloc, &tables.lock)?,
             tables,
@@ -147,9 +155,12 @@ impl Existing {
         folder: &F,
     ) -> Result<(), DiskFault> {
         let admin = Admin::of_copy(alloc)?;
-        match folder.look(alloc, &admin.database(alloc)?)? {
-            Some(Entry::File(bytes, _)) if bytes == self.database => {}
-            _ => return Err(DiskFault::InUse),
+        let path = admin.database(alloc)?;
+        let Some(bytes) = bytes_at(alloc, folder, &path)? else {
+            return Err(DiskFault::InUse);
+        };
+        if bytes != self.database {
+            return Err(DiskFault::InUse);
         }
         match refuse_journal(alloc, folder, &admin) {
             Err(DiskFault::Journal) => Err(DiskFault::InUse),

@@ -19,7 +19,8 @@ pub enum DiskFault {
     /// Something is at a path where the copy would put a node. Nothing was changed.
     #[error("{0}: something is in the way")]
     InTheWay(RelPath),
-    /// A file that would change was edited: what is on disk isn't the text of the copy.
+    /// A file that would change was edited: what is on disk isn't the text of the copy. Nothing was changed; or, if it was edited since the work was begun, what is
+    /// left of the work waits.
     #[error("{0}: changed on disk")]
     Changed(RelPath),
     /// Something else is on disk where the copy has a directory in which something would change. Nothing was changed.

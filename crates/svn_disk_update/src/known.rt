@@ -30,8 +30,8 @@ impl KnownTexts {
         Ok(KnownTexts { words })
     }
 
-    /// Whether a stand-in names one of them.
-    pub(crate) fn has(&self, stand_in: &[u8]) -> bool {
+    // Whether a stand-in names one of them.
+    fn has(&self, stand_in: &[u8]) -> bool {
         match <[u8; STAND_IN_LEN]>::try_from(stand_in) {
             Ok(word) => self.words.contains(&word),
             Err(_) => false,

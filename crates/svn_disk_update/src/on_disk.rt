@@ -43,6 +43,22 @@ pub(crate) fn find<F: Folder>(
     })
 }
 
+/// The bytes of the file at a path; none where no file is.
+pub(crate) fn bytes_at<F: Folder>(
+    alloc: Global,
+    folder: &F,
+    path: &RelPath,
+) -> Result<Option<Text>, DiskFault> {
+    let Some(entry) = folder.look(alloc, path)? else {
+        return Ok(None);
+    };
+    match entry {
+        Entry::File(bytes, _mode) => Ok(Some(bytes)),
+        Entry::Directory => Ok(None),
+        Entry::Link(_target) => Ok(None),
+    }
+}
+
 // Whether a file on disk is another way to write a text, by its properties.
 fn is_translated<F: Folder>(
     alloc: Global,
@@ -54,13 +70,11 @@ fn is_translated<F: Folder>(
     if !is_translated_on_disk(props) {
         return Ok(false);
     }
-    match folder.look(alloc, path)? {
-        Some(Entry::File(bytes, _)) => {
-            let text = text_of(alloc, bytes.as_slice(), props)?;
-            Ok(stand_in(alloc, &text)? == *name)
-        }
-        _ => Ok(false),
-    }
+    let Some(bytes) = bytes_at(alloc, folder, path)? else {
+        return Ok(false);
+    };
+    let text = text_of(alloc, bytes.as_slice(), props)?;
+    Ok(stand_in(alloc, &text)? == *name)
 }
 
 /// Refuses what is at the path of a file of a copy, if it isn't that file's text, as it is or as its properties have it written: an edit. Changed, Folder,
@@ -93,7 +107,7 @@ pub(crate) fn readings<F: Folder>(
     path: &RelPath,
 ) -> Result<Vec<Text>, DiskFault> {
     let mut texts = Vec::new(alloc);
-    let Some(Entry::File(bytes, _)) = folder.look(alloc, path)? else {
+    let Some(bytes) = bytes_at(alloc, folder, path)? else {
         return Ok(texts);
     };
     let plain = without_values(alloc, bytes.as_slice(), Keywords::All)?;

@@ -195,13 +195,6 @@ impl<'a> Plan<'a> {
         }
     }
 
-    /// Whether something is made where something else goes: then work with both can't be done again once it is half done.
-    pub(crate) fn changes_kind(&self) -> bool {
-        self.changes
-            .values()
-            .any(|change| *change == Change::Replaced)
-    }
-
     /// The files that go, and then the directories, from below.
     pub(crate) fn removals(&self, alloc: Global) -> Result<Vec<Work>, DiskFault> {
         let mut work = Vec::new(alloc);

@@ -3,7 +3,7 @@ use Rattle.std.proofs.Common.{◌≡◌, true, false, inl, inr, List, [], ◌∷
 use Rattle.std.specs.Prelude.{Result, Ok, Err, IsErr, IsErrAnd, ◌==◌}
 use Rattle.svn_types.specs.Names.{Path}
 use Rattle.svn_folder.specs.declared.step.Step.{Step}
-use Rattle.svn_folder.specs.declared.step.Step.TheVariants.{SyncFile, SyncDirectory}
+use Rattle.svn_folder.specs.declared.step.Step.TheVariants.{SyncDirectory}
 use Rattle.svn_folder.specs.declared.fault.FolderFault.{FolderFault}
 use Rattle.svn_folder.specs.Pasts.{Past, Unknown, Takes}
 use Rattle.svn_folder.specs.Files.{TakesAll, TakesSyncs, AreSyncs, file_syncs, is_sync}

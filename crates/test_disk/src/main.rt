@@ -14,7 +14,7 @@ mod stops;
 use anyhow::Result;
 use copies::{copy, empty, inner, make};
 use mend_refusals::try_mend_refusals;
-use mends::{Falsehood, try_stopped_mends};
+use mends::{Falsehood, try_lost_mends, try_stopped_mends};
 use refusals::try_refusals;
 use std::alloc::Global;
 use std::process::ExitCode;
@@ -40,6 +40,7 @@ fn try_all<R: Print + AllocGlobal>(rt: &R) -> Result<()> {
     try_refusals(rt, &copy, &whole)?;
     let falsehood = Falsehood::new(alloc)?;
     try_stopped_mends(rt, &falsehood)?;
+    try_lost_mends(rt, &falsehood)?;
     try_mend_refusals(rt, &falsehood)
 }
 

@@ -8,15 +8,15 @@ use crate::stops::look;
 use anyhow::{Result, bail};
 use std::alloc::Global;
 use svn_disk_update::{Remedy, Resumed, mend, resume};
-use svn_folder::{Entry, MemoryFolder, Mode, SyncedFolder};
+use svn_folder::{Entry, Held, MemoryFolder, Mode, SyncedFolder};
 use svn_repo::Repo;
-use svn_types::{Rev, Text};
+use svn_types::{RelPath, Rev, Text};
 use svn_wc::WorkingCopy;
 use svn_wcdb::read_base_tree;
 
 const DATABASE: &str = ".svn/wc.db";
 
-/// Of the stops before the new copy is there, each of so many is followed by another mend.
+/// One of so many stops is followed by another mend.
 const EACH: usize = 8;
 
 /// A false copy, the repository, and the copy put right.
@@ -138,18 +138,45 @@ impl Falsehood {
         self.whole.steps().len().saturating_sub(self.made)
     }
 
-    // Which of the two copies the database stands for.
-    fn word_of(&self, alloc: Global, folder: &MemoryFolder) -> Result<&'static str> {
-        let Some(Entry::File(bytes, _)) = look(alloc, folder, DATABASE)? else {
-            bail!("there is no database")
-        };
-        if is_database(alloc, bytes.as_slice(), &self.lost)? {
+    // Which of the two copies a database stands for.
+    fn word_of_bytes(&self, alloc: Global, bytes: &[u8]) -> Result<&'static str> {
+        if is_database(alloc, bytes, &self.lost)? {
             return Ok("the old copy");
         }
-        if is_database(alloc, bytes.as_slice(), &self.found)? {
+        if is_database(alloc, bytes, &self.found)? {
             return Ok("the new copy");
         }
         bail!("neither copy")
+    }
+
+    // Which of the two copies the folder has.
+    fn word_of(&self, alloc: Global, folder: &MemoryFolder) -> Result<&'static str> {
+        match look(alloc, folder, DATABASE)? {
+            Some(Entry::File(bytes, _)) => self.word_of_bytes(alloc, bytes.as_slice()),
+            _ => bail!("there is no database"),
+        }
+    }
+
+    // Fails where a loss of power may leave something else than one of the two copies.
+    fn check_held(&self, alloc: Global, held: &Held) -> Result<()> {
+        match &held.entry {
+            Some(Entry::File(bytes, _)) if held.is_synced => {
+                self.word_of_bytes(alloc, bytes.as_slice())?;
+                Ok(())
+            }
+            _ => bail!("a crash may leave another database"),
+        }
+    }
+
+    // The same after so many steps.
+    fn lose_power(&self, alloc: Global, count: usize) -> Result<()> {
+        let folder = self.stopped(alloc, count)?;
+        let left = folder.left_at(&RelPath::parse(alloc, DATABASE)?)?;
+        self.check_held(alloc, &left.now)?;
+        for held in &left.older {
+            self.check_held(alloc, held)?;
+        }
+        Ok(())
     }
 
     // Fails unless the folder has the copy put right.
@@ -182,7 +209,10 @@ impl Falsehood {
             Resumed::Completed => ", with work left",
             Resumed::Cleared => bail!("there was no copy"),
         };
-        if word == "the new copy" || count % EACH == 0 {
+        if word == "the new copy" {
+            self.check_whole(alloc, &folder)?;
+        }
+        if count % EACH == 0 {
             self.mend_again(alloc, folder)?;
         }
         Ok((word, more))
@@ -202,5 +232,14 @@ pub(crate) fn try_stopped_mends<R: Print + AllocGlobal>(rt: &R, all: &Falsehood)
             last = words;
         }
     }
+    Ok(())
+}
+
+/// Loses the power after each number of steps of the mending.
+pub(crate) fn try_lost_mends<R: Print + AllocGlobal>(rt: &R, all: &Falsehood) -> Result<()> {
+    for count in 0..all.steps().saturating_add(1) {
+        all.lose_power(rt.alloc(), count)?;
+    }
+    println!(rt; "losses of power in {} steps: the old copy, or the new one", all.steps())?;
     Ok(())
 }

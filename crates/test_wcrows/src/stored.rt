@@ -65,7 +65,7 @@ fn make_rows(alloc: Global, rows: &mut [TableRow], nodes: &[(RelPath, BaseNode)]
             if let Some((path, node)) = nodes.get(count) {
                 make_row(alloc, row, path, node)?;
             }
-            count += 1;
+            count = count.saturating_add(1);
         }
     }
     Ok(count)
