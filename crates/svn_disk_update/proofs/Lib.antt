@@ -16,3 +16,5 @@ pub mod Replacing
 pub mod Reading
 -- lists that are made of the nodes of a copy
 pub mod Planning
+-- the steps of a checkout change nothing elsewhere
+pub mod Elsewhere

@@ -1,6 +1,6 @@
-use Rattle.std.proofs.Common.{◌≡◌, ℕ, List, sym, subst}
-use Rattle.svn_folder.specs.States.{seen}
+use Rattle.std.proofs.Common.{◌≡◌, ap, subst, ◌∙◌}
 use Rattle.svn_types.specs.Names.{Path}
+use Rattle.svn_folder.specs.States.{seen}
 use Rattle.svn_disk_update.specs.Goes.{IsAlways}
 use Rattle.svn_disk_update.specs.Places.{text_place}
 use Rattle.svn_disk_update.specs.Crashes.{IsTextOf}
@@ -8,4 +8,8 @@ use Rattle.svn_disk_update.proofs.Reading.{sums_text}
 use Rattle.svn_disk_update.proofs.texts.has_text.Goals as goal
 
 pub returns-in-Some : goal.returns-in-Some
-returns-in-Some g c = λ has. ?
+returns-in-Some g c = λ has.
+    subst (λ (p : Path). IsAlways (λ s. IsTextOf c.args.name.now (seen s p)) (g.F.Folder.past c.args.folder.now))
+    (c.in_ok-place.ensures ∙ ap (text_place c.args.admin.now.name) c.as_slice.ensures)
+    (sums_text (g.F.Folder.past c.args.folder.now) c.in_ok-place.place c.args.name.now c.in_ok-sum.sum c.in-Some.found c.in_ok-sum.ensures
+    (c.has_sum.ensures has) c.in-Some.ensures)
