@@ -25,6 +25,9 @@ use Rattle.svn_disk_update.specs.Crashes.{HasBytes, HasSum, IsTextOf, IsDatabase
 
 -- ---- the database
 
+pub stands_same : {nodes other : List (Path × BaseNode)} → {bytes : List ℕ} → nodes ≡ other → StandsFor nodes bytes → StandsFor other bytes
+stands_same {bytes = bytes} same stands = subst (λ n. StandsFor n bytes) same stands
+
 pub shows_bytes : (now : Past) (p : Path) (entry : Entry) (image : List ℕ) → HasBytes image (Some entry) → Shows now p (Some entry)
     → IsAlways (λ s. HasBytes image (seen s p)) now
 shows_bytes now p entry image has shows s steps is = (has.0, sym (subst (λ (x : Past). Shows x p (Some entry)) is shows) ∙ has.1)

@@ -62,9 +62,9 @@ pub(crate) fn has_text<F: Folder>(
     ensures { IfOk result (λ has. has ≡ true → IsAlways (λ s. IsTextOf name.now (seen s (text_place admin.now.name name.now))) (F.past folder.now)) }
 {
     let place = admin.text(alloc, name.as_slice())?;
-    let sum = sum_of(alloc, name)?;
+    let wanted = sum_of(alloc, name)?;
     match folder.sum(alloc, &place)? {
-        Some(found) => Ok(has_sum(&found, &sum)),
+        Some(found) => Ok(has_sum(&found, &wanted)),
         None => Ok(false),
     }
 }

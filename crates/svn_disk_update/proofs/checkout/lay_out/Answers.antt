@@ -23,4 +23,4 @@ returns-clause-steps g c = (keeps_more (keeps_more c.in_ok-make_admin.ensures.0 
 
 pub returns-clause-image : goal.returns-clause-image
 returns-clause-image g c =
-    subst (λ (b : List ℕ). StandsFor c.args.contents.now.nodes.items b) (sym c.new.ensures) c.in_ok-image_with_work.ensures
+    subst (λ (b : List ℕ). StandsFor c.args.contents.now.nodes.items b) (sym c.new-image.ensures) c.in_ok-image_with_work.ensures

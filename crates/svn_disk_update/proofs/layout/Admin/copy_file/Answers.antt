@@ -3,7 +3,7 @@ use Rattle.svn_folder.specs.declared.step.Step.TheVariants.{Make}
 use Rattle.svn_folder.specs.declared.entry.Entry.TheVariants.{File}
 use Rattle.svn_disk_update.specs.Places.{is_inside}
 use Rattle.svn_disk_update.proofs.Going.{taken, refused, one_each}
-use Rattle.svn_disk_update.proofs.inside.Admin.copy_file.Goals as goal
+use Rattle.svn_disk_update.proofs.layout.Admin.copy_file.Goals as goal
 
 pub returns-in_err-copy_file : goal.returns-in_err-copy_file
 returns-in_err-copy_file g c =

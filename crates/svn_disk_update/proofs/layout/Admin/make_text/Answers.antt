@@ -4,7 +4,7 @@ use Rattle.svn_folder.specs.declared.step.Step.TheVariants.{Make}
 use Rattle.svn_folder.specs.declared.entry.Entry.TheVariants.{File}
 use Rattle.svn_disk_update.specs.Places.{is_inside}
 use Rattle.svn_disk_update.proofs.Going.{taken, refused, one_each}
-use Rattle.svn_disk_update.proofs.inside.Admin.make_text.Goals as goal
+use Rattle.svn_disk_update.proofs.layout.Admin.make_text.Goals as goal
 
 pub returns-in_err-make_file : goal.returns-in_err-make_file
 returns-in_err-make_file g c =
