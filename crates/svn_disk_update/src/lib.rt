@@ -39,12 +39,12 @@
 //! copy), `Crashes.antt` (what a crash during a checkout leaves), `Laws.antt`.
 //!
 //! Promises: every function is safe and returns. Each step of [`check_out`] is inside of `.svn-new` or `.svn`, is the rename of the one to the other, or
-//! makes or places a node of the copy (`is_of_copy`), so that nothing else is changed (`a_checkout_changes_nothing_else`). With `sync`, in a folder that is all on the disk and has no copy, a crash
-//! at any moment of it leaves no copy, or the whole one (`Leaves`, `IsNoneOrWhole`), and once it has returned Ok the whole one (`LeavesAfter`): at
-//! `.svn/wc.db` a file whose bytes stand for a copy with just these nodes, and of each file the pristine text, by its checksum (`IsWhole`). A crash is one
-//! of `svn_folder`, so this is said of folders whose steps are known; of a folder of the system no contract speaks. Not proved, and tested by `test_disk`
-//! at each step: that the files of the copy are at their places in the end, and what [`resume`] and [`mend`] do. The copy that [`mended`] returns is
-//! true of the repository (`IsTrueOf`).
+//! makes or places a node of the copy (`is_of_copy`), so that nothing else is changed (`a_checkout_changes_nothing_else`). With `sync`, in a folder that is
+//! all on the disk and has no copy, a crash at any moment of it leaves no copy, or the whole one (`Leaves`, `IsNoneOrWhole`), and once it has returned Ok
+//! the whole one (`LeavesAfter`): at `.svn/wc.db` a file whose bytes stand for a copy with just these nodes, and of each file the pristine text, by its
+//! checksum (`IsWhole`). A crash is one of `svn_folder`, so this is said of folders whose steps are known; of a folder of the system no contract speaks.
+//! Not proved, and tested by `test_disk` at each step: that the files of the copy are at their places in the end, and what [`resume`] and [`mend`] do. The
+//! copy that [`mended`] returns is true of the repository (`IsTrueOf`).
 #![tactic(auto)]
 
 mod above;
