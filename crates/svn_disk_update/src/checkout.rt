@@ -269,20 +269,11 @@ fn image_with_work(
     let mut locks = Vec::new(alloc);
     locks.push(lock_row(alloc, OWNER)?)?;
     progress.tables.wc_lock = locks;
-    Ok(write_copy(
-        alloc,
-        &progress.tables,
-        Numbers::with_work(1),
-        &plan.nodes,
-    )?)
+    Ok(write_copy(alloc, &progress.tables, Numbers::with_work(1), &plan.nodes)?)
 }
 
 // The database of a copy with no work left.
-fn image_at_end(
-    alloc: Global,
-    progress: &mut Progress,
-    plan: &Plan,
-) -> Result<Vec<u8>, DiskFault>
+fn image_at_end(alloc: Global, progress: &mut Progress, plan: &Plan) -> Result<Vec<u8>, DiskFault>
     ensures { IfOk result (λ image. StandsFor plan.now.nodes.items image.items) }
 {
     progress.tables.work_queue = Vec::new(alloc);

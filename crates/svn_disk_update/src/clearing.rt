@@ -27,11 +27,7 @@ fn remove_files<F: Folder>(
 }
 
 // Removes a directory with all that is in it, from below.
-fn remove_all<F: Folder>(
-    alloc: Global,
-    folder: &mut F,
-    path: &RelPath,
-) -> Result<(), DiskFault> {
+fn remove_all<F: Folder>(alloc: Global, folder: &mut F, path: &RelPath) -> Result<(), DiskFault> {
     let mut left = Vec::new(alloc);
     left.push(path.clone()?)?;
     for _ in 0..u64::MAX {
@@ -49,11 +45,7 @@ fn remove_all<F: Folder>(
 }
 
 /// Removes what a checkout left that was cut off before there was a copy. NoCopy where nothing is of one.
-pub(crate) fn clear<F: Folder>(
-    alloc: Global,
-    folder: &mut F,
-    sync: bool,
-) -> Result<(), DiskFault> {
+pub(crate) fn clear<F: Folder>(alloc: Global, folder: &mut F, sync: bool) -> Result<(), DiskFault> {
     let path = Admin::of_new(alloc)?.folder(alloc)?;
     match folder.sum(alloc, &path)? {
         Some(Summary::Directory) => {

@@ -120,7 +120,13 @@ fn prepare_again<F: Folder>(
     let new = admin.new_file(alloc, number)?;
     remove_if_any(alloc, folder, &new)?;
     let time = existing.time_of(path);
-    let is_file = prepare(alloc, folder, admin, number, &Prepared { name, props, time })?;
+    let is_file = prepare(
+        alloc,
+        folder,
+        admin,
+        number,
+        &Prepared { name, props, time },
+    )?;
     Ok(if is_file { Some(new) } else { None })
 }
 
@@ -176,11 +182,7 @@ fn complete<F: Folder>(
 /// Refused before anything is changed: NoCopy; Foreign where the work is a client's, or the database was changed since, which `svn cleanup` is for;
 /// NoText where a pristine text isn't the one that its stand-in names; InTheWay at the first path where something is that isn't the copy's. Then Folder,
 /// Rows, Path and Memory. It may be cut off, and done again.
-pub fn resume<F: Folder>(
-    alloc: Global,
-    folder: &mut F,
-    sync: bool,
-) -> Result<Resumed, DiskFault> {
+pub fn resume<F: Folder>(alloc: Global, folder: &mut F, sync: bool) -> Result<Resumed, DiskFault> {
     match Existing::read(alloc, folder) {
         Ok(mut existing) => {
             if !existing.is_busy() {
