@@ -31,11 +31,7 @@ pub(crate) fn take_if<F: Folder>(folder: &mut F, step: Step, sync: bool) -> Resu
 
 /// Makes an entry, whose time is that of the step.
 #[tactic(auto, using(crate::proofs::Going::keeps_more, crate::proofs::Going::stops_more, crate::proofs::Going::stops_there, crate::proofs::Going::stops_none))]
-pub(crate) fn make<F: Folder>(
-    folder: &mut F,
-    path: RelPath,
-    entry: Entry,
-) -> Result<(), DiskFault>
+pub(crate) fn make<F: Folder>(folder: &mut F, path: RelPath, entry: Entry) -> Result<(), DiskFault>
     ensures does { Does (step.Make path entry None ∷ []) (F.past folder.old) result (F.past folder.new) }
     ensures one { TakesOne (step.Make path entry None) (F.past folder.old) result (F.past folder.new) }
 {

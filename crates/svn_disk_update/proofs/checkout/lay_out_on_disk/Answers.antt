@@ -25,7 +25,9 @@ returns-in_err-read_back-clause-steps g c =
 
 pub returns-clause-steps : goal.returns-clause-steps
 returns-clause-steps g c =
-    let n = c.args.admin.now.name in
-    (keeps_more c.in_ok-progress.ensures.steps.0
-    (keeps_wider is_sync (is_inside n) (sync_inside n) (g.F.Folder.past c.lay_out.new.folder.folder) (g.F.Folder.past c.settle.new.folder.folder)
-    c.in_ok-settle.ensures.steps.0), tt)
+    let n = c.args.admin.now.name in (
+      keeps_more c.in_ok-progress.ensures.steps.0
+          (keeps_wider is_sync (is_inside n) (sync_inside n) (g.F.Folder.past c.lay_out.new.folder.folder) (g.F.Folder.past c.settle.new.folder.folder)
+          c.in_ok-settle.ensures.steps.0),
+      tt,
+    )

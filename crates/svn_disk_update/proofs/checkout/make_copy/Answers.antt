@@ -46,15 +46,19 @@ returns-in_err-name_folder-clause-crash g c = λ sync.
     c.in_err-name_folder.ensures.one.1) in search rules
 
 pub returns-clause-steps : goal.returns-clause-steps
-returns-clause-steps g c =
-    (keeps_more (made_keeps c.args.what.now.copy.now c.in_ok-admin.admin.name (g.F.Folder.past c.args.folder.now.folder)
-    (g.F.Folder.past c.lay_out_on_disk.new.folder.folder) c.in_ok-admin.ensures c.in_ok-progress.ensures.steps.0)
-    (c.in_ok-name_folder.ensures.does.0 (is_of_copy c.args.what.now.copy.now) (naming_of_copy c.args.what.now.copy.now)), tt)
+returns-clause-steps g c = (
+  keeps_more (made_keeps c.args.what.now.copy.now c.in_ok-admin.admin.name (g.F.Folder.past c.args.folder.now.folder)
+      (g.F.Folder.past c.lay_out_on_disk.new.folder.folder) c.in_ok-admin.ensures c.in_ok-progress.ensures.steps.0)
+      (c.in_ok-name_folder.ensures.does.0 (is_of_copy c.args.what.now.copy.now) (naming_of_copy c.args.what.now.copy.now)),
+  tt,
+)
 
 pub returns-clause-crash : goal.returns-clause-crash
-returns-clause-crash g c = λ sync.
-    (leads_more (making_leads c.args.what.now.copy.now c.in_ok-admin.admin.name c.in_ok-admin.ensures (g.F.Folder.past c.args.folder.now.folder)
-    (g.F.Folder.past c.lay_out_on_disk.new.folder.folder) c.in_ok-progress.ensures.steps.0 (c.in_ok-progress.ensures.synced sync)
-    c.in_ok-progress.ensures.whole)
-    (naming_leads c.args.what.now.copy.now (g.F.Folder.past c.lay_out_on_disk.new.folder.folder) (g.F.Folder.past c.name_folder.new.folder.folder)
-    c.in_ok-name_folder.ensures.one.0), tt)
+returns-clause-crash g c = λ sync. (
+  leads_more (making_leads c.args.what.now.copy.now c.in_ok-admin.admin.name c.in_ok-admin.ensures (g.F.Folder.past c.args.folder.now.folder)
+      (g.F.Folder.past c.lay_out_on_disk.new.folder.folder) c.in_ok-progress.ensures.steps.0 (c.in_ok-progress.ensures.synced sync)
+      c.in_ok-progress.ensures.whole)
+      (naming_leads c.args.what.now.copy.now (g.F.Folder.past c.lay_out_on_disk.new.folder.folder) (g.F.Folder.past c.name_folder.new.folder.folder)
+      c.in_ok-name_folder.ensures.one.0),
+  tt,
+)

@@ -17,6 +17,8 @@ pub returns : goal.returns
 returns g c =
     let made = c.in_ok-copy_file.ensures in
     let step = Make c.args.to.now (File made.bytes c.args.mode) c.args.modified in
-    let n = c.args.self.now.name in
-    (taken step (g.F.Folder.past c.args.folder.now) (g.F.Folder.past c.copy_file.new.self) c.in_ok-copy_file.field-0 made.takes (is_inside n)
-    (one_each (is_inside n) step c.requires), tt)
+    let n = c.args.self.now.name in (
+      taken step (g.F.Folder.past c.args.folder.now) (g.F.Folder.past c.copy_file.new.self) c.in_ok-copy_file.field-0 made.takes (is_inside n)
+          (one_each (is_inside n) step c.requires),
+      tt,
+    )

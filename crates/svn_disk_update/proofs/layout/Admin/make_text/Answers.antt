@@ -18,6 +18,8 @@ pub returns : goal.returns
 returns g c =
     let made = c.in_ok-make_file.ensures.made in
     let step = Make c.args.path.now (File made.bytes c.args.mode) None in
-    let n = c.args.self.now.name in
-    (taken step (g.F.Folder.past c.args.folder.now) (g.F.Folder.past c.make_file.new.self) c.in_ok-make_file.field-0 made.takes (is_inside n)
-    (one_each (is_inside n) step c.requires), tt)
+    let n = c.args.self.now.name in (
+      taken step (g.F.Folder.past c.args.folder.now) (g.F.Folder.past c.make_file.new.self) c.in_ok-make_file.field-0 made.takes (is_inside n)
+          (one_each (is_inside n) step c.requires),
+      tt,
+    )
