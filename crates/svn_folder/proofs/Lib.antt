@@ -29,3 +29,5 @@ mod Back
 mod Several
 -- steps that sync show nothing new
 pub mod Syncs
+-- bytes that were given, piece by piece
+mod Giving
