@@ -27,20 +27,25 @@ fn link_text(alloc: Global, target: &Text) -> Result<Vec<u8>, DiskFault> {
     Ok(text)
 }
 
+// What a summary is of.
+fn found_of(alloc: Global, summary: &Summary) -> Result<Found, DiskFault> {
+    Ok(match summary {
+        Summary::Directory => Found::Directory,
+        Summary::File { sha1, .. } => Found::Leaf(stand_in_of(alloc, &sha1.0)?),
+        Summary::Link(target) => Found::Leaf(stand_in(alloc, &link_text(alloc, target)?)?),
+    })
+}
+
 /// What is at a path on disk.
 pub(crate) fn find<F: Folder>(
     alloc: Global,
     folder: &F,
     path: &RelPath,
 ) -> Result<Found, DiskFault> {
-    Ok(match folder.sum(alloc, path)? {
-        None => Found::Nothing,
-        Some(Summary::Directory) => Found::Directory,
-        Some(Summary::File { sha1, .. }) => Found::Leaf(stand_in_of(alloc, &sha1.0)?),
-        Some(Summary::Link(target)) => {
-            Found::Leaf(stand_in(alloc, &link_text(alloc, &target)?)?)
-        }
-    })
+    match folder.sum(alloc, path)? {
+        Some(summary) => found_of(alloc, &summary),
+        None => Ok(Found::Nothing),
+    }
 }
 
 /// The bytes of the file at a path; none where no file is.
