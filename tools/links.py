@@ -6,8 +6,8 @@
 - Words in backquotes: names of files with an ending of this repository must be there, and names with `_` or a capital inside must occur in
   code, definitions or proofs, or be Subversion's, which begin with `svn_`. So in pages and in the doc comments of code.
 - Links to other pages, and to the headings in them.
-- Pages: lines of at most 160 characters, rows of tables of at most 500; README.md at most 110 lines, each page at most 4,900 words, all together
-  at most 34,400; none of the wordings of NEVER and UNUSUAL, which have the usual one beside each. In comments of code those of NEVER, with
+- Pages: lines of at most 160 characters, rows of tables of at most 500; README.md at most 110 lines, each page at most 5,000 words, all together
+  at most 34,600; none of the wordings of NEVER and UNUSUAL, which have the usual one beside each. In comments of code those of NEVER, with
   --comments all.
 - Crates: each of crates.txt is on docs/DESIGN.md. The tables of docs/DEFINITIONS.md are as `tools/definitions --page` writes them.
 - Examples: each is the same in examples/ and in crates/example_library/data, whose program sees no other folder. The blocks of docs/TUTORIAL.md,
@@ -24,7 +24,7 @@ import sys
 TOP = os.path.dirname(os.path.dirname(os.path.abspath(__file__)))
 ENDINGS = (".rt", ".antt", ".md", ".py", ".sh", ".script", ".output", ".edit")
 COMMENT = re.compile(r"^\s*//[/!] ?(.*)$")
-LONGEST_LINE, LONGEST_ROW, README_LINES, PAGE_WORDS, ALL_WORDS = 160, 500, 110, 4900, 34400
+LONGEST_LINE, LONGEST_ROW, README_LINES, PAGE_WORDS, ALL_WORDS = 160, 500, 110, 5000, 34600
 # wordings of pages and of comments, each with what to write for it
 NEVER = {
     r"wants? of memory|wanting memory|memory is wanting": "out of memory",
