@@ -11,10 +11,10 @@ ghost use Rattle.svn_disk_update.specs.Places.{is_inside, is_reserved, is_of_cop
 ghost use Rattle.svn_disk_update.specs.Plans.{present_nodes, work_of};
 
 use crate::carry::{carry_out, replace_database};
+use crate::contents::Contents;
 use crate::fault::DiskFault;
 use crate::layout::{Admin, is_reserved};
 use crate::node_file::file_of;
-use crate::contents::Contents;
 use crate::prepared::{Prepared, prepare};
 use crate::read_back::read_back;
 use crate::settle::settle;

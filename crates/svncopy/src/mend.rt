@@ -107,10 +107,9 @@ fn mend_each<T: Files<File = File> + Threads + Print + Eprint + AllocGlobal, S: 
 }
 
 /// Mends copies by a dump, which is read once for all of them. A refusal that is about the dump is returned, and then nothing was done.
-pub(crate) fn mend_all<T: Files<File = File> + Threads + Input + Print + Eprint + Clock + AllocGlobal>(
-    rt: &T,
-    words: &command_line::Mend<'_>,
-) -> Result<ExitCode, Fault> {
+pub(crate) fn mend_all<
+    T: Files<File = File> + Threads + Input + Print + Eprint + Clock + AllocGlobal,
+>(rt: &T, words: &command_line::Mend<'_>) -> Result<ExitCode, Fault> {
     let alloc = rt.alloc();
     let beside = words.folders.first().copied().unwrap_or(".");
     let dump = open(rt, words.dump, beside)?;

@@ -240,6 +240,9 @@ pub(crate) fn try_lost_mends<R: Print + AllocGlobal>(rt: &R, all: &Falsehood) ->
     for count in 0..all.steps().saturating_add(1) {
         all.lose_power(rt.alloc(), count)?;
     }
-    println!(rt; "losses of power in {} steps: the old copy, or the new one", all.steps())?;
+    println!(rt;
+        "losses of power in {} steps: the old copy, or the new one",
+        all.steps()
+    )?;
     Ok(())
 }
