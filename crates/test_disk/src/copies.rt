@@ -50,7 +50,7 @@ pub(crate) type Stopping = SyncedFolder<StoppedFolder<MemoryFolder>>;
 #[derive(Clone, Copy, Debug)]
 pub(crate) struct Known {
     texts: &'static [&'static str],
-    begun: Option<&'static str>,
+    begun: Option<&'static [u8]>,
 }
 
 impl Known {
@@ -66,10 +66,10 @@ impl Pieces for Known {
         if text.is_empty() {
             return None;
         }
-        // three bytes at once, which are ASCII
+        // three bytes at once
         let (piece, left) = text.split_at(text.len().min(3));
         self.begun = Some(left);
-        Text::from_slice(alloc, piece.as_bytes()).ok()
+        Text::from_slice(alloc, piece).ok()
     }
 }
 
@@ -77,7 +77,7 @@ impl Source for Known {
     fn begin_text(&mut self, sha1: &Sha1Sum) -> Option<TextSums> {
         for text in self.texts {
             if Sha1Sum::of(text.as_bytes()) == *sha1 {
-                self.begun = Some(*text);
+                self.begun = Some(text.as_bytes());
                 return Some(TextSums {
                     len: text.len() as u64,
                     md5: Digest::of(text.as_bytes()),
