@@ -169,7 +169,7 @@ impl Bringing<'_> {
         refuse(self.alloc, folder, self.existing, self.plan)
     }
 
-    // Puts the new copy in place of the old one, where nothing on disk is to be done but that.
+    // Puts the new copy in place of the old one, where nothing else changes on disk.
     fn record<F: Folder>(
         &self,
         folder: &mut SyncedFolder<F>,

@@ -27,7 +27,7 @@ fn word_of(change: Change) -> &'static str {
     }
 }
 
-// Prints that nothing is to be mended.
+// Prints that there is nothing to mend.
 fn print_true<T: Print>(rt: &T, word: &str) -> Result<(), Fault> {
     match println!(rt; "{word}: true: nothing to mend") {
         Ok(()) => Ok(()),

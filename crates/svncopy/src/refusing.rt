@@ -1,4 +1,4 @@
-//! How a refusal is told.
+//! How a refusal is printed.
 
 use crate::fault::Fault;
 use std::process::ExitCode;
