@@ -13,7 +13,7 @@ use std::io::ErrorKind;
 use std::path::PathBuf;
 use std::rt::{Clock, Files};
 use std::thread::Threads;
-use svn_disk_update::{Checkout, check_out, inherited_props, refuse_check_out, refuse_reserved};
+use svn_disk::{Checkout, check_out, inherited_props, refuse_check_out, refuse_reserved};
 use svn_editor::PathWord;
 use svn_folder::{DiskFolder, SyncedFolder};
 use svn_types::{RelPath, Rev};

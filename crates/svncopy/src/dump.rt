@@ -7,7 +7,7 @@ use std::io::{Read, Seek, SeekFrom};
 use std::os::unix::fs::OpenOptionsExt;
 use std::rt::Files;
 use std::{fs, io};
-use svn_disk_update::{Source, TextSums};
+use svn_disk::{Source, TextSums};
 use svn_dump::{DumpIndex, Limits, Reader, Texts};
 use svn_folder::Pieces;
 use svn_history::{LoadListener, Loader, last_change};

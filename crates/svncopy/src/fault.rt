@@ -2,7 +2,7 @@
 
 use std::alloc::{AllocError, AllocFailed};
 use std::io;
-use svn_disk_update::DiskFault;
+use svn_disk::DiskFault;
 use svn_dump::DumpFault;
 use svn_history::LoadFault;
 use svn_wc::WcFault;

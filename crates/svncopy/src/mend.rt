@@ -11,7 +11,7 @@ use std::path::PathBuf;
 use std::process::ExitCode;
 use std::rt::{Clock, Files};
 use std::thread::Threads;
-use svn_disk_update::{Change, PathChange, Remedy, Source, mend, mend_changes};
+use svn_disk::{Change, PathChange, Remedy, Source, mend, mend_changes};
 use svn_editor::PathWord;
 use svn_folder::{DiskFolder, SyncedFolder};
 

@@ -5,7 +5,7 @@ use std::fs::File;
 use std::path::PathBuf;
 use std::rt::Files;
 use std::thread::Threads;
-use svn_disk_update::{Resumed, resume};
+use svn_disk::{Resumed, resume};
 use svn_folder::DiskFolder;
 
 /// Completes a working copy, and says what there was to do.

@@ -3,7 +3,7 @@
 use anyhow::Result;
 use std::alloc::{AllocError, Global};
 use svn_digits::stand_in;
-use svn_disk_update::{Checkout, Source, TextSums, check_out};
+use svn_disk::{Checkout, Source, TextSums, check_out};
 use svn_folder::{
     Folder, MemoryFolder, Pieces, StoppedFolder, SyncedFolder, an_empty_folder_is_synced,
 };

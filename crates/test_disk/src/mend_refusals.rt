@@ -4,7 +4,7 @@ use crate::copies::{Known, TEXTS};
 use crate::mends::{Falsehood, Left, opened, what};
 use anyhow::Result;
 use std::alloc::Global;
-use svn_disk_update::{Remedy, mend, mend_changes};
+use svn_disk::{Remedy, mend, mend_changes};
 use svn_folder::{Entry, Folder, Mode, Step};
 use svn_types::{RelPath, Text};
 

@@ -7,7 +7,7 @@ use crate::replay::replay;
 use crate::stops::look;
 use anyhow::{Result, bail};
 use std::alloc::Global;
-use svn_disk_update::{Remedy, Resumed, mend, resume};
+use svn_disk::{Remedy, Resumed, mend, resume};
 use svn_folder::{Entry, Held, MemoryFolder, Mode, SyncedFolder};
 use svn_repo::Repo;
 use svn_types::{RelPath, Rev, Text};

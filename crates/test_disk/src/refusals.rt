@@ -4,7 +4,7 @@ use crate::copies::{Stopping, empty, make};
 use crate::stops::stopped;
 use anyhow::Result;
 use std::alloc::Global;
-use svn_disk_update::resume;
+use svn_disk::resume;
 use svn_folder::{Entry, Folder, MemoryFolder, Mode, Step};
 use svn_types::{RelPath, Text};
 use svn_wc::WorkingCopy;

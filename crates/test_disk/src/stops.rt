@@ -3,7 +3,7 @@
 use crate::copies::{copy, empty, inner, make};
 use anyhow::{Result, bail};
 use std::alloc::Global;
-use svn_disk_update::{DiskFault, Resumed, resume};
+use svn_disk::{DiskFault, Resumed, resume};
 use svn_folder::{Entry, Folder, Held, MemoryFolder, StoppedFolder};
 use svn_types::RelPath;
 use svn_wc::WorkingCopy;

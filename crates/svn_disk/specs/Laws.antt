@@ -1,0 +1,34 @@
+-- What a checkout rests on when the administrative folder gets its name, and what its steps leave alone.
+use Rattle.std.specs.Prelude.{◌≡◌, ◌⊎◌, ℕ, true, false, List, [], ◌∷◌, bytes_eq, codes, None}
+use Rattle.std.specs.List.{list_all}
+use Rattle.svn_types.specs.Names.{Path}
+use Rattle.svn_types.specs.Paths.{is_within}
+use Rattle.svn_model.specs.declared.base_node.BaseNode.{BaseNode}
+use Rattle.svn_folder.specs.declared.step.Step.{Step}
+use Rattle.svn_folder.specs.declared.step.Step.TheVariants.{RenameDirectory}
+use Rattle.svn_folder.specs.States.{Seen, State, seen}
+use Rattle.svn_folder.specs.Steps.{after, run}
+use Rattle.svn_folder.specs.Crashes.{RunMayLeave}
+use Rattle.svn_folder.specs.Syncing.{IsSynced}
+use Rattle.svn_folder.specs.Laws.{IsOnDisk}
+use Rattle.svn_disk.specs.Places.{is_node, is_of_copy}
+
+-- what was on the disk at a name in the folder, and below it, is there at another one
+abbrev pub IsThereUnder : State → List ℕ → List ℕ → Seen → Type 0
+IsThereUnder s m n left = (p : Path) → IsOnDisk s (m ∷ p) → left (n ∷ p) ≡ seen s (m ∷ p)
+
+-- Once all of a folder is on the disk a directory in it gets another name, which is free, at once: a crash leaves nothing at that name, or all that was at the old one.
+-- After the step all of that is on the disk at the new name.
+abbrev pub a_directory_is_renamed_at_once : Type 0
+a_directory_is_renamed_at_once =
+    (s : State) (m n : List ℕ) → IsSynced s → bytes_eq m n ≡ false → seen s (n ∷ []) ≡ None
+    → ((left : Seen) → RunMayLeave s (RenameDirectory m n ∷ []) left → (left (n ∷ []) ≡ None) ⊎ IsThereUnder s m n left)
+    × IsThereUnder s m n (seen (after (RenameDirectory m n) s))
+    × ((p : Path) → IsOnDisk s (m ∷ p) → IsOnDisk (after (RenameDirectory m n) s) (n ∷ p))
+
+-- Steps of a checkout leave what is shown at a path that isn't in its folders, nor that of a node of the copy or below one.
+abbrev pub a_checkout_changes_nothing_else : Type 0
+a_checkout_changes_nothing_else =
+    (copy : List (Path × BaseNode)) (s : State) (steps : List Step) (p : Path) → is_within (codes ".svn-new" ∷ []) p ≡ false
+    → is_within (codes ".svn" ∷ []) p ≡ false → ((q : Path) → is_node copy q ≡ true → is_within q p ≡ false)
+    → list_all (is_of_copy copy) steps ≡ true → seen (run s steps) p ≡ seen s p

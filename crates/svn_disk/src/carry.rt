@@ -1,0 +1,181 @@
+//! The work of a new copy, done: its directories are made, and its files get their places.
+ghost use Rattle.std.specs.Prelude.{◌≡◌, List, Bool, true, codes};
+ghost use Rattle.std.specs.List.{list_all};
+ghost use Rattle.svn_types.specs.Names.{Path};
+ghost use Rattle.svn_model.specs.declared.base_node.BaseNode.{BaseNode};
+ghost use Rattle.svn_wcrows.specs.Copies.{StandsFor};
+ghost use Rattle.svn_folder.specs.Files.{is_sync};
+ghost use Rattle.svn_disk.specs.Goes.{Goes};
+ghost use Rattle.svn_disk.specs.Places.{is_inside, is_placing};
+ghost use Rattle.svn_disk.specs.Plans.{present_nodes, path_of};
+ghost use Rattle.svn_disk.specs.Crashes.{IsNoneOrWhole, IsSafe, IsSet, IsLasting, Runs};
+
+use crate::fault::DiskFault;
+use crate::layout::Admin;
+use crate::steps::{make, make_directory_if_none, remove_if_any, rename, take, take_if};
+use std::alloc::Global;
+use std::collections::BTreeSet;
+use svn_folder::{Entry, Folder, Mode, Step};
+use svn_types::{RelPath, Text};
+use svn_wcrows::Work;
+
+// Makes a directory.
+fn make_one<F: Folder>(
+    alloc: Global,
+    folder: &mut F,
+    admin: &Admin,
+    item: &Work,
+) -> Result<(), DiskFault>
+    ensures { (free : Path → Bool) → free (path_of item.now) ≡ true → Goes (is_placing admin.now.name free) (F.past folder.old) result (F.past folder.new) }
+{
+    match item {
+        Work::MakeDirectory(path) => make_directory_if_none(alloc, folder, path),
+        Work::InstallFile(_) | Work::RemoveFile(_) | Work::RemoveDirectory(_) => Ok(()),
+    }
+}
+
+// Makes the directories, which come from above.
+fn make_directories<F: Folder>(
+    alloc: Global,
+    folder: &mut F,
+    admin: &Admin,
+    work: &[Work],
+) -> Result<(), DiskFault>
+    ensures { (free : Path → Bool) → list_all (λ item. free (path_of item)) work.now ≡ true → Goes (is_placing admin.now.name free) (F.past folder.old) result (F.past folder.new) }
+{
+    for item in work {
+        make_one(alloc, folder, admin, item)?;
+    }
+    Ok(())
+}
+
+// How many files it places.
+fn files_in(item: &Work) -> usize {
+    match item {
+        Work::InstallFile(_) => 1,
+        Work::MakeDirectory(_) | Work::RemoveFile(_) | Work::RemoveDirectory(_) => 0,
+    }
+}
+
+// Gives a file its place.
+fn place_one<F: Folder>(
+    alloc: Global,
+    folder: &mut F,
+    admin: &Admin,
+    number: usize,
+    item: &Work,
+) -> Result<(), DiskFault>
+    ensures { (free : Path → Bool) → free (path_of item.now) ≡ true → Goes (is_placing admin.now.name free) (F.past folder.old) result (F.past folder.new) }
+{
+    match item {
+        Work::InstallFile(path) => rename(folder, &admin.new_file(alloc, number)?, path),
+        Work::MakeDirectory(_) | Work::RemoveFile(_) | Work::RemoveDirectory(_) => Ok(()),
+    }
+}
+
+// Gives the files their places, of which each has the next name of its own.
+fn place_files<F: Folder>(
+    alloc: Global,
+    folder: &mut F,
+    admin: &Admin,
+    work: &[Work],
+) -> Result<(), DiskFault>
+    ensures { (free : Path → Bool) → list_all (λ item. free (path_of item)) work.now ≡ true → Goes (is_placing admin.now.name free) (F.past folder.old) result (F.past folder.new) }
+{
+    let mut number = 0usize;
+    for item in work {
+        place_one(alloc, folder, admin, number, item)?;
+        number = number.saturating_add(files_in(item));
+    }
+    Ok(())
+}
+
+// The directories in which the work is.
+fn parents(alloc: Global, work: &[Work]) -> Result<BTreeSet<RelPath>, DiskFault> {
+    let mut parents = BTreeSet::new(alloc);
+    for item in work {
+        if let Some(parent) = item.path().parent(alloc)? {
+            parents.insert(parent)?;
+        }
+    }
+    Ok(parents)
+}
+
+// Brings all names to the disk, from above, since a directory's names are on the disk only if its own is. Some of them an earlier run may have made,
+// which was cut off, so that nothing is known of them.
+fn sync_names<F: Folder>(alloc: Global, folder: &mut F, work: &[Work]) -> Result<(), DiskFault>
+    ensures { Goes is_sync (F.past folder.old) result (F.past folder.new) }
+{
+    for path in &parents(alloc, work)? {
+        take(folder, Step::SyncDirectory(path.clone()?))?;
+    }
+    Ok(())
+}
+
+/// Does the work of a new copy, whose files have names of their own, and brings all names to the disk if `sync` says so.
+pub(crate) fn carry_out<F: Folder>(
+    alloc: Global,
+    folder: &mut F,
+    admin: &Admin,
+    work: &[Work],
+    sync: bool,
+) -> Result<(), DiskFault>
+    ensures { (free : Path → Bool) → list_all (λ item. free (path_of item)) work.now ≡ true → Goes (is_placing admin.now.name free) (F.past folder.old) result (F.past folder.new) }
+{
+    make_directories(alloc, folder, admin, work)?;
+    place_files(alloc, folder, admin, work)?;
+    if !sync {
+        return Ok(());
+    }
+    sync_names(alloc, folder, work)
+}
+
+// Makes another database, whose bytes are on the disk with `sync`.
+fn make_database<F: Folder>(
+    alloc: Global,
+    folder: &mut F,
+    admin: &Admin,
+    image: Vec<u8>,
+    sync: bool,
+) -> Result<(), DiskFault>
+    ensures steps { Goes (is_inside admin.now.name) (F.past folder.old) result (F.past folder.new) }
+    ensures crash { sync ≡ true → admin.now.name ≡ codes ".svn" → (copy : List (Path × BaseNode)) → StandsFor (present_nodes copy) image.items → Runs (IsSafe copy) (IsNoneOrWhole copy) (IsSet copy) (F.past folder.old) result (F.past folder.new) }
+{
+    let new = admin.new_database(alloc)?;
+    let entry = Entry::File(Text::new(image), Mode::PLAIN);
+    remove_if_any(alloc, folder, &new)?;
+    make(folder, new.clone()?, entry)?;
+    take_if(folder, Step::SyncFile(new), sync)
+}
+
+// Puts it in place of the one that is there; with `sync` its name is on the disk after it.
+fn put_database<F: Folder>(
+    alloc: Global,
+    folder: &mut F,
+    admin: &Admin,
+    sync: bool,
+) -> Result<(), DiskFault>
+    ensures steps { Goes (is_inside admin.now.name) (F.past folder.old) result (F.past folder.new) }
+    ensures crash { sync ≡ true → admin.now.name ≡ codes ".svn" → (copy : List (Path × BaseNode)) → Runs (IsSet copy) (IsNoneOrWhole copy) (IsLasting copy) (F.past folder.old) result (F.past folder.new) }
+{
+    let new = admin.new_database(alloc)?;
+    let database = admin.database(alloc)?;
+    let above = admin.folder(alloc)?;
+    rename(folder, &new, &database)?;
+    take_if(folder, Step::SyncDirectory(above), sync)
+}
+
+/// Puts a database in place of the one that is there; with `sync` its bytes are on the disk before, and its name after.
+pub(crate) fn replace_database<F: Folder>(
+    alloc: Global,
+    folder: &mut F,
+    admin: &Admin,
+    image: Vec<u8>,
+    sync: bool,
+) -> Result<(), DiskFault>
+    ensures steps { Goes (is_inside admin.now.name) (F.past folder.old) result (F.past folder.new) }
+    ensures crash { sync ≡ true → admin.now.name ≡ codes ".svn" → (copy : List (Path × BaseNode)) → StandsFor (present_nodes copy) image.items → Runs (IsSafe copy) (IsNoneOrWhole copy) (IsLasting copy) (F.past folder.old) result (F.past folder.new) }
+{
+    make_database(alloc, folder, admin, image, sync)?;
+    put_database(alloc, folder, admin, sync)
+}

@@ -1,0 +1,99 @@
+//! Steps in the administrative folder.
+ghost use Rattle.std.specs.Prelude.{◌≡◌, ◌∷◌, [], true};
+ghost use Rattle.svn_types.specs.Paths.{is_within};
+ghost use Rattle.svn_disk.specs.Goes.{Goes};
+ghost use Rattle.svn_disk.specs.Places.{is_inside};
+
+use crate::fault::DiskFault;
+use crate::layout::Admin;
+use crate::source::Source;
+use crate::steps;
+use std::alloc::Global;
+use svn_folder::{Entry, Folder, Mode};
+use svn_types::RelPath;
+
+impl Admin {
+    /// Makes an entry.
+    pub(crate) fn make<F: Folder>(
+        &self,
+        folder: &mut F,
+        path: RelPath,
+        entry: Entry,
+    ) -> Result<(), DiskFault>
+        requires { is_within (self.now.name ∷ []) path ≡ true }
+        ensures { Goes (is_inside self.now.name) (F.past folder.old) result (F.past folder.new) }
+    {
+        steps::make(folder, path, entry)
+    }
+
+    /// Makes a directory, if nothing is there.
+    pub(crate) fn make_directory_if_none<F: Folder>(
+        &self,
+        alloc: Global,
+        folder: &mut F,
+        path: &RelPath,
+    ) -> Result<(), DiskFault>
+        requires { is_within (self.now.name ∷ []) path.now ≡ true }
+        ensures { Goes (is_inside self.now.name) (F.past folder.old) result (F.past folder.new) }
+    {
+        steps::make_directory_if_none(alloc, folder, path)
+    }
+
+    /// Makes a file of the text that a source has begun.
+    pub(crate) fn make_text<F: Folder, S: Source>(
+        &self,
+        alloc: Global,
+        folder: &mut F,
+        path: &RelPath,
+        mode: Mode,
+        source: &mut S,
+    ) -> Result<(), DiskFault>
+        requires { is_within (self.now.name ∷ []) path.now ≡ true }
+        ensures { Goes (is_inside self.now.name) (F.past folder.old) result (F.past folder.new) }
+    {
+        Ok(folder.make_file(alloc, path, mode, None, source)?)
+    }
+
+    /// Makes a file with the bytes of another one.
+    pub(crate) fn copy_file<F: Folder>(
+        &self,
+        alloc: Global,
+        folder: &mut F,
+        from: &RelPath,
+        to: &RelPath,
+        mode: Mode,
+        modified: Option<u64>,
+    ) -> Result<(), DiskFault>
+        requires { is_within (self.now.name ∷ []) to.now ≡ true }
+        ensures { Goes (is_inside self.now.name) (F.past folder.old) result (F.past folder.new) }
+    {
+        Ok(folder.copy_file(alloc, from, to, mode, modified)?)
+    }
+
+    /// Gives a file another path.
+    pub(crate) fn rename<F: Folder>(
+        &self,
+        folder: &mut F,
+        from: &RelPath,
+        to: &RelPath,
+    ) -> Result<(), DiskFault>
+        requires from { is_within (self.now.name ∷ []) from.now ≡ true }
+        requires to { is_within (self.now.name ∷ []) to.now ≡ true }
+        ensures { Goes (is_inside self.now.name) (F.past folder.old) result (F.past folder.new) }
+    {
+        steps::rename(folder, from, to)
+    }
+
+    /// Removes a file or a link, if one is there.
+    pub(crate) fn remove_if_any<F: Folder>(
+        &self,
+        alloc: Global,
+        folder: &mut F,
+        path: &RelPath,
+    ) -> Result<(), DiskFault>
+        requires { is_within (self.now.name ∷ []) path.now ≡ true }
+        ensures { Goes (is_inside self.now.name) (F.past folder.old) result (F.past folder.new) }
+    {
+        steps::remove_if_any(alloc, folder, path)
+    }
+}

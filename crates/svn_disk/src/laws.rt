@@ -1,0 +1,12 @@
+//! What a checkout rests on, as the contracts of functions with nothing in them.
+ghost use Rattle.svn_disk.specs.Laws.{a_directory_is_renamed_at_once, a_checkout_changes_nothing_else};
+
+/// Once all of a folder is on the disk a directory in it gets another name at once: a crash leaves nothing at that name, or all that was at the old one.
+pub fn a_directory_is_renamed_at_once()
+    ensures { a_directory_is_renamed_at_once }
+{}
+
+/// The steps of a checkout leave what is shown at a path that isn't in its folders, nor that of a node of the copy or below one.
+pub fn a_checkout_changes_nothing_else()
+    ensures { a_checkout_changes_nothing_else }
+{}

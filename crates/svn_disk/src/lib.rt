@@ -1,0 +1,96 @@
+//! Working copies of Subversion, brought to disk: what a client takes over as its own.
+//!
+//! ```
+//! let mut folder = SyncedFolder::new(alloc, DiskFolder::new(rt, root));
+//! let what = Checkout { url, uuid, copy: &copy, inherited: None, time, sync: true };
+//! check_out(alloc, &mut folder, &mut source, &what)?;
+//! ```
+//!
+//! [`check_out`] makes all of a copy in the folder `.svn-new`: its texts, each file under a name of its own, and the database, whose work queue says
+//! what is left to do. Once all of it is on the disk the folder becomes `.svn`, by one rename; then directories are made, files get their places, and
+//! another database without a queue takes the place of the first. Before the rename there is no copy, from then on there is the whole one: [`resume`]
+//! completes it, or `svn cleanup`. A [`Source`] gives the texts, piece by piece, and each node's last change.
+//!
+//! [`mend`] brings a copy that is on disk to another state, the one that [`mended`] says, in the way in which any other is reached (`bring`): what differs is
+//! planned, what is in the way is refused, texts and files are made under names of their own, and a database with the new rows and what is left to do takes the
+//! place of the old one, by one rename. Before it the copy is the old one, from then on the new one. Then what goes is removed and what comes is made, as
+//! [`resume`] and `svn cleanup` do it too, and a database with nothing left follows. Rows of nodes that stay are kept byte by byte, and so are those of all other
+//! tables but the texts' and the work's.
+//!
+//! | Files, lowest first | What they do |
+//! |---|---|
+//! | `fault` | why a copy isn't brought to disk |
+//! | `layout`, `inside` | where a copy keeps what it knows; steps in that folder |
+//! | `steps`, `settle` | steps of a folder that belong together; what was done, brought to the disk |
+//! | `normal`, `node_file` | texts without values of keywords, and with other line ends; what a file is on disk, by its text and properties |
+//! | `source`, `texts`, `prepared`, `read_back` | where texts come from; pristine texts; files under names of their own; what was written, read back |
+//! | `inherited` | the properties that a copy's root inherits |
+//! | `contents`, `carry` | what is written of a new copy; its work, done |
+//! | `checkout` | a new copy |
+//! | `existing`, `clearing`, `completion` | one that is on disk; what was cut off before there was one; what was cut off, completed |
+//! | `above`, `plan`, `wanted` | the directories above a path; what becomes of each path between two copies; what a copy is brought to |
+//! | `on_disk`, `local`, `refusals` | what is on disk; local changes in the way; all that is in the way |
+//! | `task`, `known`, `doing`, `database_image` | the work that is left; the texts by which a file is nobody's edit; the work, done; the databases that follow |
+//! | `rows`, `temporary`, `bring` | rows of a changed copy; what an earlier run left; a copy on disk, brought to another state |
+//! | `truth`, `mending` | what of a copy is untrue, put right; the same on disk |
+//! | `laws` | what the crash theorem rests on, of a rename |
+//!
+//! Definitions, in the order of reading: `specs/Goes.antt` (which steps a call takes), `Places.antt` (where they are), `Plans.antt` (what is written of a
+//! copy), `Crashes.antt` (what a crash during a checkout leaves), `Laws.antt`.
+//!
+//! Promises: every function is safe and returns. Each step of [`check_out`] is inside of `.svn-new` or `.svn`, is the rename of the one to the other, or
+//! makes or places a node of the copy (`is_of_copy`), so that nothing else is changed (`a_checkout_changes_nothing_else`). With `sync`, in a folder that is
+//! all on the disk and has no copy, a crash at any moment of it leaves no copy, or the whole one (`Leaves`, `IsNoneOrWhole`), and once it has returned Ok
+//! the whole one (`LeavesAfter`): at `.svn/wc.db` a file whose bytes stand for a copy with just these nodes, and of each file the pristine text, by its
+//! checksum (`IsWhole`). A crash is one of `svn_folder`, so this is said of folders whose steps are known; of a folder of the system no contract speaks.
+//! Not proved, and tested by `test_disk` at each step: that the files of the copy are at their places in the end, and what [`resume`] and [`mend`] do. The
+//! copy that [`mended`] returns is true of the repository (`IsTrueOf`).
+#![tactic(auto)]
+
+mod above;
+mod bring;
+mod carry;
+mod checkout;
+mod clearing;
+mod completion;
+mod contents;
+mod database_image;
+mod doing;
+mod existing;
+mod fault;
+mod inherited;
+mod inside;
+mod known;
+mod laws;
+mod layout;
+mod local;
+mod mending;
+mod node_file;
+mod normal;
+mod on_disk;
+mod plan;
+mod prepared;
+mod read_back;
+mod refusals;
+mod rows;
+mod settle;
+mod source;
+mod steps;
+mod task;
+mod temporary;
+mod texts;
+mod truth;
+mod wanted;
+
+pub use bring::{bring, changes};
+pub use checkout::{Checkout, check_out, refuse_check_out, refuse_reserved};
+pub use completion::{Resumed, resume};
+pub use existing::Existing;
+pub use fault::{DiskFault, OtherRepository};
+pub use inherited::inherited_props;
+pub use laws::{a_checkout_changes_nothing_else, a_directory_is_renamed_at_once};
+pub use mending::{Remedy, mend, mend_changes};
+pub use plan::{Change, PathChange};
+pub use source::{Source, TextSums};
+pub use truth::mended;
+pub use wanted::Wanted;

@@ -1,0 +1,96 @@
+//! Steps that belong together.
+ghost use Rattle.std.specs.Prelude.{◌≡◌, ◌∷◌, [], true, None};
+ghost use Rattle.svn_folder.specs.declared.entry.Entry.TheVariants as entry;
+ghost use Rattle.svn_folder.specs.declared.step.Step.TheVariants as step;
+ghost use Rattle.svn_disk.specs.Goes.{Does, TakesOne};
+
+use crate::fault::DiskFault;
+use std::alloc::Global;
+use svn_folder::{Entry, Folder, Step};
+use svn_types::RelPath;
+
+/// Takes a step.
+pub(crate) fn take<F: Folder>(folder: &mut F, step: Step) -> Result<(), DiskFault>
+    ensures does { Does (step ∷ []) (F.past folder.old) result (F.past folder.new) }
+    ensures one { TakesOne step (F.past folder.old) result (F.past folder.new) }
+{
+    Ok(folder.take(step)?)
+}
+
+/// Takes a step that brings something to the disk, if that is asked for.
+#[tactic(auto, using(crate::proofs::Going::keeps_none))]
+pub(crate) fn take_if<F: Folder>(folder: &mut F, step: Step, sync: bool) -> Result<(), DiskFault>
+    ensures does { Does (step ∷ []) (F.past folder.old) result (F.past folder.new) }
+    ensures one { sync ≡ true → TakesOne step (F.past folder.old) result (F.past folder.new) }
+{
+    if !sync {
+        return Ok(());
+    }
+    take(folder, step)
+}
+
+/// Makes an entry, whose time is that of the step.
+#[tactic(auto, using(crate::proofs::Going::keeps_more, crate::proofs::Going::stops_more, crate::proofs::Going::stops_there, crate::proofs::Going::stops_none))]
+pub(crate) fn make<F: Folder>(folder: &mut F, path: RelPath, entry: Entry) -> Result<(), DiskFault>
+    ensures does { Does (step.Make path entry None ∷ []) (F.past folder.old) result (F.past folder.new) }
+    ensures one { TakesOne (step.Make path entry None) (F.past folder.old) result (F.past folder.new) }
+{
+    let modified = None;
+    take(
+        folder,
+        Step::Make {
+            path,
+            entry,
+            modified,
+        },
+    )
+}
+
+/// Makes a directory, if nothing is there.
+#[tactic(auto, using(crate::proofs::Going::keeps_more, crate::proofs::Going::stops_more, crate::proofs::Going::stops_there, crate::proofs::Going::stops_none))]
+pub(crate) fn make_directory_if_none<F: Folder>(
+    alloc: Global,
+    folder: &mut F,
+    path: &RelPath,
+) -> Result<(), DiskFault>
+    ensures { Does (step.Make path.now entry.Directory None ∷ []) (F.past folder.old) result (F.past folder.new) }
+{
+    if folder.look(alloc, path)?.is_some() {
+        return Ok(());
+    }
+    make(folder, path.clone()?, Entry::Directory)
+}
+
+/// Removes a file or a link, if one is there.
+#[tactic(auto, using(crate::proofs::Going::keeps_more, crate::proofs::Going::stops_more, crate::proofs::Going::stops_there, crate::proofs::Going::stops_none))]
+pub(crate) fn remove_if_any<F: Folder>(
+    alloc: Global,
+    folder: &mut F,
+    path: &RelPath,
+) -> Result<(), DiskFault>
+    ensures { Does (step.RemoveFile path.now ∷ []) (F.past folder.old) result (F.past folder.new) }
+{
+    match folder.look(alloc, path)? {
+        Some(entry) if entry.is_leaf() => take(folder, Step::RemoveFile(path.clone()?)),
+        _ => Ok(()),
+    }
+}
+
+/// Gives a file another path.
+#[tactic(auto, using(crate::proofs::Going::keeps_more, crate::proofs::Going::stops_more, crate::proofs::Going::stops_there, crate::proofs::Going::stops_none))]
+pub(crate) fn rename<F: Folder>(
+    folder: &mut F,
+    from: &RelPath,
+    to: &RelPath,
+) -> Result<(), DiskFault>
+    ensures does { Does (step.Rename from.now to.now ∷ []) (F.past folder.old) result (F.past folder.new) }
+    ensures one { TakesOne (step.Rename from.now to.now) (F.past folder.old) result (F.past folder.new) }
+{
+    take(
+        folder,
+        Step::Rename {
+            from: from.clone()?,
+            to: to.clone()?,
+        },
+    )
+}

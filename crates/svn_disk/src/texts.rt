@@ -1,0 +1,186 @@
+//! Pristine texts, brought to disk.
+ghost use Rattle.std.specs.Prelude.{◌≡◌, true, IfOk};
+ghost use Rattle.svn_digits.specs.StandIns.{stand_in_of};
+ghost use Rattle.svn_folder.specs.States.{seen};
+ghost use Rattle.svn_disk.specs.Goes.{Goes, IsAlways};
+ghost use Rattle.svn_disk.specs.Places.{is_inside, text_place};
+ghost use Rattle.svn_disk.specs.Crashes.{HasSum, IsTextOf};
+
+use crate::fault::DiskFault;
+use crate::layout::Admin;
+use crate::source::{Source, TextSums};
+use std::alloc::Global;
+use std::collections::BTreeMap;
+use svn_digits::stand_in_of;
+use svn_folder::{Folder, Mode, Summary};
+use svn_types::{RelPath, Sha1Sum, Text};
+use svn_wcdb::TableRow;
+use svn_wcrows::{number_at, pristine_record, text_at};
+
+/// Nobody writes to a pristine text.
+const PRISTINE: Mode = Mode {
+    executable: false,
+    read_only: true,
+};
+
+/// The checksum that a stand-in is of. NoStandIn where it is none.
+pub(crate) fn sum_of(alloc: Global, name: &Text) -> Result<Sha1Sum, DiskFault>
+    ensures { IfOk result (λ sum. stand_in_of sum ≡ name.now) }
+{
+    let Some(digits) = name.as_slice().strip_prefix(b"$sha1$") else {
+        return Err(DiskFault::NoStandIn);
+    };
+    let mut sum = [0; 20];
+    if hex::decode_to_slice(digits, &mut sum).is_err() {
+        return Err(DiskFault::NoStandIn);
+    }
+    // upper-case digits would be taken too
+    if stand_in_of(alloc, &sum)? == *name {
+        Ok(Sha1Sum(sum))
+    } else {
+        Err(DiskFault::NoStandIn)
+    }
+}
+
+// Whether it is a file with this checksum.
+fn has_sum(found: &Summary, sum: &Sha1Sum) -> bool
+    ensures { result ≡ true → HasSum sum.now found.now }
+{
+    match found {
+        Summary::File { sha1, .. } => sha1 == sum,
+        Summary::Directory | Summary::Link(_) => false,
+    }
+}
+
+/// Whether a text is in the folder under its name: a file with the checksum that its stand-in says.
+pub(crate) fn has_text<F: Folder>(
+    alloc: Global,
+    folder: &F,
+    admin: &Admin,
+    name: &Text,
+) -> Result<bool, DiskFault>
+    ensures { IfOk result (λ has. has ≡ true → IsAlways (λ s. IsTextOf name.now (seen s (text_place admin.now.name name.now))) (F.past folder.now)) }
+{
+    let place = admin.text(alloc, name.as_slice())?;
+    let wanted = sum_of(alloc, name)?;
+    match folder.sum(alloc, &place)? {
+        Some(found) => Ok(has_sum(&found, &wanted)),
+        None => Ok(false),
+    }
+}
+
+/// The texts that a copy keeps: their sizes in bytes, by their checksums.
+#[derive(Drop)]
+pub(crate) struct Texts {
+    alloc: Global,
+    sizes: BTreeMap<[u8; 20], u64>,
+}
+
+impl Texts {
+    /// None is kept yet.
+    pub(crate) fn new(alloc: Global) -> Texts {
+        Texts {
+            alloc,
+            sizes: BTreeMap::new(alloc),
+        }
+    }
+
+    /// Those that rows of PRISTINE have. Whether each is in the folder is another matter.
+    pub(crate) fn of_rows(alloc: Global, rows: &[TableRow]) -> Result<Texts, DiskFault> {
+        let mut texts = Texts::new(alloc);
+        for row in rows {
+            if let (Some(name), Some(size)) = (text_at(row, 0), number_at(row, 2)) {
+                let sum = sum_of(alloc, &Text::from_slice(alloc, name)?)?;
+                texts.sizes.insert(sum.0, size)?;
+            }
+        }
+        Ok(texts)
+    }
+
+    /// Keeps the text of a file of a copy that is on disk: as `keep`, and writes it anew where it has a row, and the folder hasn't its bytes under its
+    /// name.
+    pub(crate) fn keep_whole<F: Folder, S: Source>(
+        &mut self,
+        folder: &mut F,
+        source: &mut S,
+        admin: &Admin,
+        rows: &mut Vec<TableRow>,
+        file: (&RelPath, &Text),
+    ) -> Result<u64, DiskFault> {
+        let (path, name) = file;
+        let sum = sum_of(self.alloc, name)?;
+        let is_lost = match self.sizes.get(&sum.0) {
+            Some(_) => !has_text(self.alloc, folder, admin, name)?,
+            None => false,
+        };
+        if is_lost {
+            if source.begin_text(&sum).is_none() {
+                return Err(DiskFault::NoText(path.clone()?));
+            }
+            self.put(folder, source, admin, name)?;
+        }
+        self.keep(folder, source, admin, rows, file)
+    }
+
+    // Writes a text under its name.
+    fn put<F: Folder, S: Source>(
+        &self,
+        folder: &mut F,
+        source: &mut S,
+        admin: &Admin,
+        name: &Text,
+    ) -> Result<(), DiskFault>
+        ensures { Goes (is_inside admin.now.name) (F.past folder.old) result (F.past folder.new) }
+    {
+        let place = admin.text(self.alloc, name.as_slice())?;
+        let new = admin.new_text(self.alloc)?;
+        let Some(above) = place.parent(self.alloc)? else {
+            return Err(DiskFault::NoStandIn);
+        };
+        admin.make_directory_if_none(self.alloc, folder, &above)?;
+        admin.make_text(self.alloc, folder, &new, PRISTINE, source)?;
+        admin.rename(folder, &new, &place)
+    }
+
+    // Adds the row of a text.
+    fn push_row(
+        &self,
+        rows: &mut Vec<TableRow>,
+        name: &Text,
+        known: &TextSums,
+    ) -> Result<(), DiskFault> {
+        let bytes = pristine_record(self.alloc, name.as_slice(), known.len, &known.md5)?;
+        let rowid = match rows.last() {
+            Some(row) => row.rowid.saturating_add(1),
+            None => 1,
+        };
+        rows.push(TableRow { rowid, bytes })?;
+        Ok(())
+    }
+
+    /// Keeps the text of a file, and gives it a row, unless it is kept already. Returns its size in bytes. NoText where the source doesn't give it. Whether
+    /// it is the text that is named is seen when it is read back.
+    pub(crate) fn keep<F: Folder, S: Source>(
+        &mut self,
+        folder: &mut F,
+        source: &mut S,
+        admin: &Admin,
+        rows: &mut Vec<TableRow>,
+        file: (&RelPath, &Text),
+    ) -> Result<u64, DiskFault>
+        ensures { Goes (is_inside admin.now.name) (F.past folder.old) result (F.past folder.new) }
+    {
+        let (path, name) = file;
+        let sum = sum_of(self.alloc, name)?;
+        if let Some(size) = self.sizes.get(&sum.0) {
+            return Ok(*size);
+        }
+        let Some(known) = source.begin_text(&sum) else {
+            return Err(DiskFault::NoText(path.clone()?));
+        };
+        self.put(folder, source, admin, name)?;
+        self.push_row(rows, name, &known)?;
+        self.sizes.insert(sum.0, known.len)?;
+        Ok(known.len)
+    }
+}

@@ -1,6 +1,0 @@
-use Rattle.svn_folder.specs.Files.{is_sync}
-use Rattle.svn_disk_update.specs.Goes.{Keeps}
-use Rattle.svn_disk_update.proofs.carry.sync_names.Given as goal
-
-abbrev pub invariant-loop-path : goal.invariant-loop-path
-invariant-loop-path g l = Keeps is_sync (g.F.Folder.past l.fn.folder) (g.F.Folder.past l.folder)

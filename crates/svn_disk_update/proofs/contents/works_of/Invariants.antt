@@ -1,6 +1,0 @@
-use Rattle.std.proofs.Common.{◌≡◌, ◌++◌}
-use Rattle.svn_disk_update.specs.Plans.{work_of}
-use Rattle.svn_disk_update.proofs.contents.works_of.Given as goal
-
-abbrev pub invariant-loop-path : goal.invariant-loop-path
-invariant-loop-path l = l.work.items ++ work_of l.path-iterator ≡ work_of l.copy

@@ -1,5 +1,0 @@
-use Rattle.svn_disk_update.proofs.Elsewhere.{nothing_else}
-use Rattle.svn_disk_update.proofs.laws.a_checkout_changes_nothing_else.Goals as goal
-
-pub returns : goal.returns
-returns c = nothing_else
