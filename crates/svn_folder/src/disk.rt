@@ -7,6 +7,7 @@ use crate::entry::{Entry, Mode};
 use crate::fault::{FolderFault, Misfit};
 use crate::folder::Folder;
 use crate::listing::{add_name, in_order};
+use crate::locks::is_locked_at;
 use crate::pieces::Pieces;
 use crate::step::{Step, make_step};
 use crate::summary::Summary;
@@ -45,6 +46,8 @@ const MAX_OPEN: usize = 256;
 
 /// A folder of the system. Each step is the calls that it names, and a look before it at what the system wouldn't refuse. What the system refuses is
 /// `Failed`, with its error, also where the step doesn't fit.
+///
+/// `is_locked` reads the list of all locks that Linux has in `/proc/locks`.
 ///
 /// `make_file` writes each piece as it comes, and `copy_file` from file to file, so that neither holds a text. The step of an error of theirs has no
 /// bytes. `sync_files` opens up to 256 files at a time, and syncs them in up to 16 threads.
@@ -514,6 +517,13 @@ impl<T: Files<File = File> + Threads + AllocGlobal> Folder for DiskFolder<'_, T>
     fn list(&self, alloc: Global, path: &RelPath) -> Result<Vec<Name>, FolderFault> {
         match self.texts_in(&self.place(path)?) {
             Ok(texts) => Ok(in_order(alloc, names_of(alloc, &texts)?)?),
+            Err(error) => Err(unread(path, error)?),
+        }
+    }
+
+    fn is_locked(&self, path: &RelPath) -> Result<bool, FolderFault> {
+        match is_locked_at(self.rt, &self.place(path)?) {
+            Ok(is_locked) => Ok(is_locked),
             Err(error) => Err(unread(path, error)?),
         }
     }

@@ -39,6 +39,12 @@ pub trait Folder {
     fn list(&self, alloc: Global, path: &RelPath) -> Result<Vec<Name>, FolderFault>
         ensures { IfOk result (λ names. Lists (past self.now) path.now names.items) };
 
+    /// Whether a program has locked a part of the file at a path to write there, as SQLite does with its databases. By default, and where the system
+    /// doesn't tell, none has. `Unread` if the system fails, `Memory` if an allocation fails.
+    fn is_locked(&self, _path: &RelPath) -> Result<bool, FolderFault> {
+        Ok(false)
+    }
+
     /// Makes a file of all pieces that come, where nothing is: the step `Make`, with the time that it gets as there. A folder of the system writes each
     /// piece as it comes. An error may leave any part of the pieces as given.
     fn make_file<P: Pieces>(

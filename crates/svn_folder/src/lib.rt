@@ -16,7 +16,7 @@
 //!
 //! A folder also makes a file of [`Pieces`] that come one by one, makes one with the bytes of another, and syncs several files: each has the contract of
 //! the steps that it stands for. A folder of the system then holds no text in memory, and syncs in several threads. [`SyncedFolder::sync_all`] brings
-//! all to the disk that isn't there yet.
+//! all to the disk that isn't there yet. [`Folder::is_locked`] tells whether another program is about to write to a file.
 //!
 //! Definitions, in the order of reading: `specs/Entries.antt` and `States.antt` (what a path stands for, and what of it is on the disk), `Steps.antt` (when
 //! a step fits, and what it does), `Crashes.antt` (what a crash may leave, and what that assumes of a disk), `Pasts.antt` (what is known of a folder, and
@@ -43,6 +43,7 @@ mod held;
 mod laws;
 mod left;
 mod listing;
+mod locks;
 mod memory;
 mod pieces;
 mod step;

@@ -140,4 +140,8 @@ impl<F: Folder> Folder for SyncedFolder<F> {
     fn list(&self, alloc: Global, path: &RelPath) -> Result<Vec<Name>, FolderFault> {
         self.folder.list(alloc, path)
     }
+
+    fn is_locked(&self, path: &RelPath) -> Result<bool, FolderFault> {
+        self.folder.is_locked(path)
+    }
 }
