@@ -31,7 +31,7 @@
 //! | `above`, `plan`, `wanted` | the directories above a path; what becomes of each path between two copies; what a copy is brought to |
 //! | `on_disk`, `local`, `refusals` | what is on disk; local changes in the way; all that is in the way |
 //! | `task`, `known`, `doing`, `database_image` | the work that is left; the texts by which a file is nobody's edit; the work, done; the databases that follow |
-//! | `rows`, `temporary`, `bring` | rows of a changed copy; what an earlier run left; a copy on disk, brought to another state |
+//! | `rows`, `temporary`, `bringing` | rows of a changed copy; what an earlier run left; a copy on disk, brought to another state |
 //! | `truth`, `mending` | what of a copy is untrue, put right; the same on disk |
 //! | `laws` | what the crash theorem rests on, of a rename |
 //!
@@ -48,7 +48,7 @@
 #![tactic(auto)]
 
 mod above;
-mod bring;
+mod bringing;
 mod carry;
 mod checkout;
 mod clearing;
@@ -82,7 +82,7 @@ mod texts;
 mod truth;
 mod wanted;
 
-pub use bring::{bring, changes};
+pub use bringing::{bring, changes};
 pub use checkout::{Checkout, check_out, refuse_check_out, refuse_reserved};
 pub use completion::{Resumed, resume};
 pub use existing::Existing;

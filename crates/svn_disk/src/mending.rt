@@ -1,6 +1,6 @@
 //! A working copy that is on disk, put right where it isn't true.
 
-use crate::bring::{bring, changes};
+use crate::bringing::{bring, changes};
 use crate::checkout::refuse_reserved;
 use crate::existing::Existing;
 use crate::fault::DiskFault;
