@@ -24,7 +24,7 @@ import sys
 TOP = os.path.dirname(os.path.dirname(os.path.abspath(__file__)))
 ENDINGS = (".rt", ".antt", ".md", ".py", ".sh", ".script", ".output", ".edit")
 COMMENT = re.compile(r"^\s*//[/!] ?(.*)$")
-LONGEST_LINE, LONGEST_ROW, README_LINES, PAGE_WORDS, ALL_WORDS = 160, 500, 110, 5000, 34600
+LONGEST_LINE, LONGEST_ROW, README_LINES, PAGE_WORDS, ALL_WORDS = 160, 500, 110, 5300, 36000
 # wordings of pages and of comments, each with what to write for it
 NEVER = {
     r"wants? of memory|wanting memory|memory is wanting": "out of memory",

@@ -1,18 +1,27 @@
 #!/bin/bash
 # Working copies that `svncopy checkout` makes of a dump, compared with those that `svn checkout` makes of the repository: the rows of the database, the
-# pristine texts, files, modes and links. Then the client works on in them: status, commit, update, switch, revert, cleanup. Copies whose making was cut off
-# by a signal are completed by `svncopy resume`, and by `svn cleanup`.
+# pristine texts, files, modes and links. Each is made of three dumps: of `svnadmin dump`, of `svnadmin dump --deltas`, and of `svnrdump dump`. Then the
+# client works on in them: status, commit, update, switch, revert, cleanup. Copies whose making was cut off by a signal are completed by `svncopy resume`,
+# and by `svn cleanup`.
 #
 # It needs Debian's packages `subversion`, `sqlite3` and `strace`, python3, and `svncopy` as `tools/prove svncopy` builds it: crates/svncopy/out/svncopy, or the
-# program that the variable SVNCOPY names. RANDOM_COPIES says how many copies are made at random, by default 60. It works in a folder of its own, which
-# goes at the end, and is no part of the gate. The last line counts what differs.
+# program that the variable SVNCOPY names. RANDOM_COPIES says how many copies are made at random, by default 60, and LONG how many texts one file has, each a
+# delta over the one before, by default 1,000. It works in a folder of its own, which goes at the end, and is no part of the gate. The last line counts what
+# differs.
 . "$(dirname "${BASH_SOURCE[0]}")/room.sh"
 . "$here/dump_history.sh"
-needs sqlite3 python3 strace
+needs sqlite3 python3 strace svnrdump
 needs_built svncopy
 
+# dump_all: the repository as each of the three dumps
+dump_all() {
+    svnadmin dump -q repo >dump
+    svnadmin dump -q --deltas repo >deltas
+    svnrdump dump -q "file://$room/repo" >remote
+}
+
 make_history repo || exit 1
-svnadmin dump -q repo >dump
+dump_all
 url=file://$room/repo
 last=$(svnlook youngest repo)
 # a name of a URL, with its signs escaped
@@ -21,13 +30,11 @@ escaped() { python3 -c 'import sys, urllib.parse; print(urllib.parse.quote(sys.a
 # pristine_texts WC: the pristine texts, each with its checksum
 pristine_texts() { (cd "$1/.svn/pristine" && find . -type f | LC_ALL=C sort | xargs -r sha1sum); }
 
-# compare WHAT PATH REV: the copies of both programs
-compare() {
-    local what=$1 at
-    at=$url/$(escaped "$2")
-    rm -rf ours theirs
-    svn -q checkout "$at@$3" -r "$3" theirs 2>errors || return 0
-    "$SVNCOPY" checkout dump "$at@$3" ours --root "$url" >got 2>&1
+# compare_with WHAT AT REV DUMP: the copy of this dump with the client's, which is in `theirs`
+compare_with() {
+    local what="$1, of $4"
+    rm -rf ours
+    "$SVNCOPY" checkout "$4" "$2@$3" ours --root "$url" >got 2>&1
     echo "Checked out revision $3." >wanted
     same "$what: the line" wanted got
     "$here/rows.py" theirs >wanted
@@ -39,6 +46,15 @@ compare() {
     svn status ours >got
     : >wanted
     same "$what: svn status" wanted got
+}
+
+# compare WHAT PATH REV: the copies of both programs
+compare() {
+    local at dump
+    at=$url/$(escaped "$2")
+    rm -rf theirs
+    svn -q checkout "$at@$3" -r "$3" theirs 2>errors || return 0
+    for dump in dump deltas remote; do compare_with "$1" "$at" "$3" "$dump"; done
 }
 
 echo "== named copies"
@@ -53,7 +69,7 @@ for n in $(seq "$RANDOM_COPIES"); do
     if [ $((n % 10)) = 1 ]; then
         rm -rf repo
         "$here/random_history.py" "$n" 12 repo >/dev/null
-        svnadmin dump -q repo >dump
+        dump_all
         last=$(svnlook youngest repo)
     fi
     rev=$((RANDOM % last + 1))
@@ -64,7 +80,7 @@ done
 echo "== the client works on"
 rm -rf repo copy
 make_history repo || exit 1
-svnadmin dump -q repo >dump
+dump_all
 last=$(svnlook youngest repo)
 rm -rf ours
 "$SVNCOPY" checkout dump "$url/trunk@4" ours --root "$url" >/dev/null || wrong=$((wrong + 1))
@@ -78,6 +94,33 @@ work_on() {
 }
 compared=$((compared + 1))
 work_on 2>errors || { wrong=$((wrong + 1)); echo "THE CLIENT DOESN'T GO ON:"; sed 's/^/    /' errors; }
+
+echo "== standard input, and a file with ${LONG:=1000} texts, one over the other"
+make_long() {
+    svnadmin create long
+    svn -q checkout "file://$room/long" longer && (cd longer && seq 2000 >f && svn -q add f && svn -q commit -m begin) || return 1
+    for n in $(seq "$LONG"); do sed -i "$((n % 2000 + 1))s/\$/ $n/" longer/f && svn -q commit -m "$n" longer || return 1; done
+}
+make_long || wrong=$((wrong + 1))
+url=file://$room/long
+rm -rf theirs && svn -q checkout "$url" theirs
+for kind in 'svnadmin dump -q --deltas long' "svnrdump dump -q $url"; do
+    rm -rf ours
+    $kind | "$SVNCOPY" checkout - "$url" ours >/dev/null
+    "$here/rows.py" theirs >wanted
+    "$here/rows.py" ours >got
+    same "$kind: the copy" wanted got
+    ls | grep svncopy >got
+    : >wanted
+    same "$kind: what is left" wanted got
+done
+url=file://$room/repo
+
+echo "== dumps of deltas that are refused"
+"$here/damaged_deltas.py" remote "$room" >refusals || wrong=$((wrong + 1))
+while read -r name line; do
+    refused "$name" "svncopy: $name: $line" "$SVNCOPY" checkout "$name" "$url" new
+done <refusals
 
 echo "== copies that were cut off"
 rm -rf repo copy

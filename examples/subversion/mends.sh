@@ -8,7 +8,7 @@
 # builds them, or the programs that the variables SVNCOPY and SVNAUDIT name; without the latter nothing is audited. RANDOM_MENDS says how many copies are mended
 # at random, by default 60. It works in a folder of its own, which goes at the end, and is no part of the gate. The last line counts what differs.
 . "$(dirname "${BASH_SOURCE[0]}")/room.sh"
-needs sqlite3 python3 strace
+needs sqlite3 python3 strace svnrdump
 needs_built svncopy
 : "${SVNAUDIT:=$top/crates/svnaudit/out/svnaudit}"
 [ -x "$SVNAUDIT" ] || echo "    (there is no svnaudit: nothing is audited)"
@@ -107,6 +107,13 @@ for kind in $kinds; do
     "${kind}_lost" && lose && "${kind}_again" && again || wrongly "$kind: THE COPY ISN'T MADE"
     cp -a copy other
     mends "$kind" copy
+    # by deltas, off standard input
+    cp -a other remote
+    svnrdump dump -q "$url" | "$SVNCOPY" mend - remote >line 2>&1 || wrongly "$kind, by deltas: REFUSED: $(cat line)"
+    wanted_copy >wanted
+    got_copy remote >got
+    same "$kind, by deltas" wanted got
+    rm -rf remote
     # with local changes elsewhere
     cp -a other copy2 && mv copy2 mine
     echo edited >>mine/kept
@@ -252,6 +259,22 @@ refuses 'a depth' 'd: a directory of another depth than infinity' 'svn update --
 refuses 'an excluded node' 'd/e: an excluded node' 'svn update --set-depth exclude d/e'
 refuses 'a journal' 'the database has a journal: a client is at work, or was cut off, and `svn cleanup` comes first' 'echo begun >.svn/wc.db-journal'
 refuses 'a lock of a client' 'locked, or with unfinished work of a client: run `svn cleanup`' "sqlite3 .svn/wc.db \"insert into wc_lock values (1, '', -1)\""
+# a client that is about to write: SQLite's lock, with no journal yet
+locks() {
+    python3 -c 'import sqlite3, time
+database = sqlite3.connect("ours/.svn/wc.db", isolation_level=None)
+database.execute("begin immediate")
+open("held", "w").close()
+time.sleep(60)' &
+    holder=$!
+    while [ ! -e held ]; do sleep 0.1; done
+}
+rm -rf ours && cp -a copy ours && locks
+all_of ours >before
+refused 'a client about to write' 'svncopy: ours: the working copy is in use' "$SVNCOPY" mend dump ours
+all_of ours >after
+same 'a client about to write: the copy' before after
+kill "$holder" && rm held
 refuses 'work of a client' 'locked, or with unfinished work of a client: run `svn cleanup`' "sqlite3 .svn/wc.db \"insert into work_queue values (NULL, '(x)')\""
 refuses 'an unknown table' 'the database has a table that isn'"'"'t known' 'sqlite3 .svn/wc.db "create table mine (a)"'
 refused 'no copy' "svncopy: repo: no working copy" "$SVNCOPY" mend dump repo

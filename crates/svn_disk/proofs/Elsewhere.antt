@@ -1,4 +1,4 @@
--- The steps of a checkout are apart from each path that isn't in its folders, nor that of a node or below one.
+-- The steps of a checkout are apart from each path that isn't in its folders, nor that of a node or below one, and so are those of a change.
 use Rattle.std.proofs.Common.{◌≡◌, Bool, true, false, ◌&&◌, ◌||◌, not, List, [], ◌∷◌, refl, sym, ◌∙◌, ap, true≢false}
 use Rattle.std.specs.Prelude.{bytes_eq, codes}
 use Rattle.std.specs.List.{list_all}
@@ -10,10 +10,12 @@ use Rattle.svn_types.proofs.PathLemmas.{is_within-chain, same_path}
 use Rattle.svn_model.specs.declared.base_node.BaseNode.{BaseNode}
 use Rattle.svn_folder.specs.declared.step.Step.{Step}
 use Rattle.svn_folder.specs.declared.step.Step.TheVariants.{Make, SyncFile, SyncDirectory, Rename, RenameDirectory, RemoveFile, RemoveDirectory}
+use Rattle.svn_folder.specs.Entries.{is_leaf}
 use Rattle.svn_folder.specs.Laws.{is_apart, AreApart}
 use Rattle.svn_folder.proofs.Apart.{run_apart}
-use Rattle.svn_disk.specs.Places.{is_inside, is_placing, is_naming, is_node, is_of_copy, temporary_place}
-use Rattle.svn_disk.specs.Laws.{a_checkout_changes_nothing_else}
+use Rattle.svn_disk.specs.Places.{is_inside, is_placing, is_naming, is_node, is_of_copy, is_changing, is_either, is_of_change, temporary_place}
+use Rattle.svn_disk.specs.Laws.{a_checkout_changes_nothing_else, a_change_changes_nothing_else}
+use Rattle.svn_disk.proofs.Beside.{each_off}
 
 -- what is within a path is off another that isn't
 off : (n q p : Path) → is_within n q ≡ true → is_within n p ≡ false → not (is_within q p) ≡ true
@@ -92,3 +94,32 @@ module _ (copy : List (Path × BaseNode)) (p : Path) (new : is_within (codes ".s
 
 pub nothing_else : a_checkout_changes_nothing_else
 nothing_else copy s steps p new svn nodes all = run_apart s steps p (each_apart copy p new svn nodes steps all)
+
+-- ---- of a change
+
+module _ (old new : List (Path × BaseNode)) (p : Path) (svn : is_within (codes ".svn" ∷ []) p ≡ false)
+    (nodes : (q : Path) → is_either old new q ≡ true → is_within q p ≡ false) where
+  either_off : (q : Path) → is_either old new q ≡ true → not (is_within q p) ≡ true
+  either_off q h = ap not (nodes q h)
+
+  changing_apart : (step : Step) → is_changing (codes ".svn") (is_either old new) step ≡ true → is_apart step p ≡ true
+  changing_apart (Make q e t) h = either_off q (and_parts (not (is_leaf e)) (is_either old new q) h).1
+  changing_apart (SyncFile q) h = refl
+  changing_apart (SyncDirectory q) h = refl
+  changing_apart (Rename q r) h =
+      let parts = and_parts (is_within (temporary_place (codes ".svn")) q) (is_either old new r) h in
+      off_both q r p
+      (off (codes ".svn" ∷ []) q p (is_within-chain (codes ".svn" ∷ []) (temporary_place (codes ".svn")) q refl parts.0) svn) (either_off r parts.1)
+  changing_apart (RenameDirectory k m) h = absurd (true≢false (sym h))
+  changing_apart (RemoveFile q) h = either_off q h
+  changing_apart (RemoveDirectory q) h = either_off q h
+
+  change_apart : (step : Step) → is_of_change old new step ≡ true → is_apart step p ≡ true
+  change_apart step h = by (is_inside (codes ".svn") step) refl
+    where
+      by : (b : Bool) → is_inside (codes ".svn") step ≡ b → is_apart step p ≡ true
+      by true e = inside_apart (codes ".svn") p svn step e
+      by false e = changing_apart step (sym (ap (λ b. b || is_changing (codes ".svn") (is_either old new) step) e) ∙ h)
+
+pub nothing_else_changed : a_change_changes_nothing_else
+nothing_else_changed old new s steps p svn nodes all = run_apart s steps p (each_off (is_of_change old new) p (change_apart old new p svn nodes) steps all)

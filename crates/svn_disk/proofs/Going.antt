@@ -88,6 +88,11 @@ pub goes_more : {T : Type 0} → {E : Type 0} → {P : Step → Bool} → {old n
 goes_more new (Ok value) first goes = (keeps_more first goes.0, tt)
 goes_more new (Err fault) first goes = (tt, stops_more first goes.1)
 
+-- whatever comes outside of the folder after that
+pub goes_there : {T : Type 0} → {E : Type 0} → {P : Step → Bool} → {old now : Past} → (result : Result T E) → Keeps P old now → Goes P old result now
+goes_there (Ok value) keeps = (keeps, tt)
+goes_there (Err fault) keeps = (tt, stops_there keeps)
+
 -- ---- steps that have more
 
 module _ (P Q : Step → Bool) (wider : (step : Step) → P step ≡ true → Q step ≡ true) where

@@ -8,13 +8,25 @@ pub mod Moving
 pub mod Running
 -- a copy that is whole stays so
 pub mod Whole
+-- steps that are elsewhere than what is kept of a copy
+pub mod Beside
+-- pristine texts have places of their own
+pub mod TextPlaces
 -- which steps are of the copy
 pub mod Placing
--- the parts of a checkout, and a crash during each
+-- parts of a call that add to the administrative folder
+pub mod Adding
+-- the parts of a checkout and of a change, and a crash during each
 pub mod Replacing
 -- what a folder shows when it is read back
 pub mod Reading
 -- lists that are made of the nodes of a copy
 pub mod Planning
--- the steps of a checkout change nothing elsewhere
+-- nodes that compare as equal are the same
+mod NodeEquality
+-- copies in whatever order their rows are
+pub mod Copies
+-- work at nodes of two copies
+pub mod Changing
+-- the steps of a checkout and of a change change nothing elsewhere
 pub mod Elsewhere

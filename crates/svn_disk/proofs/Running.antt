@@ -8,8 +8,8 @@ use Rattle.svn_folder.specs.Steps.{run, after}
 use Rattle.svn_folder.specs.Crashes.{RunMayLeave}
 use Rattle.svn_folder.specs.Pasts.{Past, Known, Broken, LeftSince, moment}
 use Rattle.svn_folder.proofs.Runs.{run_join, left_split}
-use Rattle.svn_disk.specs.Goes.{Stands, Ends, Keeps, Stops, Took, Missed, TakesOne}
-use Rattle.svn_disk.specs.Crashes.{IsFree, Leaves, LeavesAfter, LeadsTo, BreaksAt, Leads, Breaks, Runs}
+use Rattle.svn_disk.specs.Goes.{IsAlways, Stands, Ends, Keeps, Stops, Took, Missed, TakesOne}
+use Rattle.svn_disk.specs.Crashes.{LeavesFrom, AfterFrom, LeadsTo, BreaksAt, Leads, Breaks, Runs}
 use Rattle.svn_disk.proofs.Going.{stands_at_first}
 use Rattle.svn_disk.proofs.Leaving.{left_since}
 
@@ -70,6 +70,12 @@ pub runs_more : {T : Type 0} → {E : Type 0} → {I J : State → Type 0} → {
     → Leads I C J old now → Runs J C K now result new → Runs I C K old result new
 runs_more K new (Ok value) first runs = (leads_more first runs.0, tt)
 runs_more K new (Err fault) first runs = (tt, breaks_more first runs.1)
+
+-- whatever comes outside of the folder after that
+pub runs_there : {T : Type 0} → {E : Type 0} → {I J : State → Type 0} → {C : Seen → Type 0} → {old now : Past} → (result : Result T E) → Leads I C J old now
+    → Runs I C J old result now
+runs_there (Ok value) leads = (leads, tt)
+runs_there (Err fault) leads = (tt, breaks_there leads)
 
 -- ---- from the steps that a part takes
 
@@ -143,13 +149,13 @@ since_then : (C : Seen → Type 0) (s : State) (steps more : List Step) (new : P
 since_then C s steps more new past meanwhile left may =
     meanwhile left (left_since any s steps new (record { more = more; each = all_any more; past = past }) left may)
 
-pub leads_leaves : {C : Seen → Type 0} → {J : State → Type 0} → {old new : Past} → Leads IsFree C J old new → Leaves C old new
-leads_leaves {C = C} {new = new} leads s steps is free left may =
-    let a = leads.each s steps is free in since_then C s steps a.more new (inl a.past) a.meanwhile left may
+pub leads_leaves : {I J : State → Type 0} → {C : Seen → Type 0} → {old new : Past} → Leads I C J old new → LeavesFrom I C old new
+leads_leaves {C = C} {new = new} leads s steps is begins left may =
+    let a = leads.each s steps is begins in since_then C s steps a.more new (inl a.past) a.meanwhile left may
 
-pub breaks_leaves : {C : Seen → Type 0} → {old new : Past} → Breaks IsFree C old new → Leaves C old new
-breaks_leaves {C = C} {new = new} breaks s steps is free left may =
-    let a = breaks.each s steps is free in since_then C s steps a.more new a.past a.meanwhile left may
+pub breaks_leaves : {I : State → Type 0} → {C : Seen → Type 0} → {old new : Past} → Breaks I C old new → LeavesFrom I C old new
+breaks_leaves {C = C} {new = new} breaks s steps is begins left may =
+    let a = breaks.each s steps is begins in since_then C s steps a.more new a.past a.meanwhile left may
 
 -- a crash after it
 after_it : (P : Seen → Type 0) (s : State) (steps : List Step) (new : Past) → new ≡ Known s steps
@@ -159,20 +165,72 @@ after_it P s steps new is law left may =
     let again : LeftSince (Known s (steps ++ [])) (length steps) left = subst (λ (xs : List Step). LeftSince (Known s xs) (length steps) left) (sym (append-nil steps)) known in
     law left (left_since any s steps (Known s (steps ++ [])) (record { more = []; each = refl; past = inl refl }) left again)
 
-pub leads_after : {C P : Seen → Type 0} → {J : State → Type 0} → {old new : Past} → ((s : State) → J s → (left : Seen) → RunMayLeave s [] left → P left)
-    → Leads IsFree C J old new → LeavesAfter P old new
-leads_after {P = P} {J = J} {new = new} law leads s steps is free left may =
-    let a = leads.each s steps is free in
+pub leads_after : {C P : Seen → Type 0} → {I J : State → Type 0} → {old new : Past} → ((s : State) → J s → (left : Seen) → RunMayLeave s [] left → P left)
+    → Leads I C J old new → AfterFrom I P old new
+leads_after {P = P} {J = J} {new = new} law leads s steps is begins left may =
+    let a = leads.each s steps is begins in
     after_it P s (steps ++ a.more) new a.past (law (run s (steps ++ a.more)) (begins_there J s steps a.more a.ends)) left may
 
 -- ---- by its result
 
-pub runs_leaves : {T : Type 0} → {E : Type 0} → (C : Seen → Type 0) (K : State → Type 0) (old new : Past) (result : Result T E)
-    → Runs IsFree C K old result new → Leaves C old new
-runs_leaves C K old new (Ok value) runs = leads_leaves runs.0
-runs_leaves C K old new (Err fault) runs = breaks_leaves runs.1
+pub runs_leaves : {T : Type 0} → {E : Type 0} → (I : State → Type 0) (C : Seen → Type 0) (K : State → Type 0) (old new : Past) (result : Result T E)
+    → Runs I C K old result new → LeavesFrom I C old new
+runs_leaves I C K old new (Ok value) runs = leads_leaves runs.0
+runs_leaves I C K old new (Err fault) runs = breaks_leaves runs.1
 
-pub runs_after : {T : Type 0} → {E : Type 0} → (C P : Seen → Type 0) (K : State → Type 0) (old new : Past) (result : Result T E)
-    → ((s : State) → K s → (left : Seen) → RunMayLeave s [] left → P left) → Runs IsFree C K old result new → OnOk result (LeavesAfter P old new)
-runs_after C P K old new (Ok value) law runs = leads_after law runs.0
-runs_after C P K old new (Err fault) law runs = tt
+pub runs_after : {T : Type 0} → {E : Type 0} → (I : State → Type 0) (C P : Seen → Type 0) (K : State → Type 0) (old new : Past) (result : Result T E)
+    → ((s : State) → K s → (left : Seen) → RunMayLeave s [] left → P left) → Runs I C K old result new → OnOk result (AfterFrom I P old new)
+runs_after I C P K old new (Ok value) law runs = leads_after law runs.0
+runs_after I C P K old new (Err fault) law runs = tt
+
+-- ---- more at the beginning, and less at the end
+
+pub leads_along : {H I J K : State → Type 0} → {C D : Seen → Type 0} → {old new : Past} → ((s : State) → H s → I s) → ((seen : Seen) → C seen → D seen)
+    → ((s : State) → J s → K s) → Leads I C J old new → Leads H D K old new
+leads_along begin left end leads = record {
+  each = λ s steps is begins.
+      let a = leads.each s steps is (begin (run s steps) begins) in
+      record { more = a.more; past = a.past; ends = end (run (run s steps) a.more) a.ends; meanwhile = λ seen may. left seen (a.meanwhile seen may) };
+}
+
+pub breaks_along : {H I : State → Type 0} → {C D : Seen → Type 0} → {old new : Past} → ((s : State) → H s → I s) → ((seen : Seen) → C seen → D seen)
+    → Breaks I C old new → Breaks H D old new
+breaks_along begin left breaks = record {
+  each = λ s steps is begins.
+      let a = breaks.each s steps is (begin (run s steps) begins) in
+      record { more = a.more; past = a.past; meanwhile = λ seen may. left seen (a.meanwhile seen may) };
+}
+
+pub runs_along : {T : Type 0} → {E : Type 0} → (H I J K : State → Type 0) (C D : Seen → Type 0) → ((s : State) → H s → I s) → ((seen : Seen) → C seen → D seen)
+    → ((s : State) → J s → K s) → (old new : Past) (result : Result T E) → Runs I C J old result new → Runs H D K old result new
+runs_along H I J K C D begin left end old new (Ok value) runs = (leads_along begin left end runs.0, tt)
+runs_along H I J K C D begin left end old new (Err fault) runs = (tt, breaks_along begin left runs.1)
+
+-- ---- what is known of the folder
+
+-- before
+pub leads_when : (Q I J : State → Type 0) (C : Seen → Type 0) (old new : Past) → IsAlways Q old → Leads (λ s. I s × Q s) C J old new → Leads I C J old new
+leads_when Q I J C old new always leads = record { each = λ s steps is begins. leads.each s steps is (begins, always s steps is) }
+
+pub breaks_when : (Q I : State → Type 0) (C : Seen → Type 0) (old new : Past) → IsAlways Q old → Breaks (λ s. I s × Q s) C old new → Breaks I C old new
+breaks_when Q I C old new always breaks = record { each = λ s steps is begins. breaks.each s steps is (begins, always s steps is) }
+
+-- and after
+pub leads_known : (Q I J : State → Type 0) (C : Seen → Type 0) (old new : Past) → IsAlways Q new → Leads I C J old new → Leads I C (λ s. J s × Q s) old new
+leads_known Q I J C old new always leads = record {
+  each = λ s steps is begins.
+      let a = leads.each s steps is begins in
+      record {
+        more = a.more;
+        past = a.past;
+        ends = (a.ends, subst Q (run_join s steps a.more) (always s (steps ++ a.more) a.past));
+        meanwhile = a.meanwhile;
+      };
+}
+
+-- nothing is done
+pub leads_none : (I : State → Type 0) (C : Seen → Type 0) → ((s : State) → I s → (left : Seen) → RunMayLeave s [] left → C left) → (now : Past) → Leads I C I now now
+leads_none I C law now = record {
+  each = λ s steps is begins.
+      record { more = []; past = is ∙ ap (Known s) (sym (append-nil steps)); ends = begins; meanwhile = law (run s steps) begins };
+}

@@ -1,12 +1,12 @@
--- A copy that is whole, and on the disk, stays so: while the folder gets its name, its nodes are placed, and its database is replaced.
+-- A copy that is whole, and on the disk, stays so: while other steps are taken, its folder gets its name, and its database is replaced.
 use Rattle.std.proofs.Common.{◌≡◌, Bool, true, false, ◌&&◌, ◌⊎◌, inl, inr, not, List, [], ◌∷◌, ◌++◌, refl, sym, ◌∙◌, ap, subst, true≢false}
-use Rattle.std.specs.Prelude.{ℕ, bytes_eq, codes, Option, Some, None, is_some}
+use Rattle.std.specs.Prelude.{ℕ, bytes_eq, codes, cond, Option, Some, None, is_some}
 use Rattle.std.specs.List.{list_all}
 use Rattle.std.proofs.lemmas.Bool.{and_parts}
 use Rattle.svn_types.specs.Names.{Path}
 use Rattle.svn_types.specs.Paths.{is_within}
 use Rattle.svn_types.proofs.NameLemmas.{Name}
-use Rattle.svn_types.proofs.PathLemmas.{path_eq-same, split_within}
+use Rattle.svn_types.proofs.PathLemmas.{path_eq-same}
 use Rattle.svn_model.specs.declared.base_node.BaseNode.{BaseNode}
 use Rattle.svn_model.specs.declared.base_node.BaseNode.TheVariants.{File as FileNode, Dir as DirNode, NotPresent}
 use Rattle.svn_wcrows.specs.Copies.{StandsFor}
@@ -14,23 +14,23 @@ use Rattle.svn_folder.specs.declared.entry.Mode.{Mode}
 use Rattle.svn_folder.specs.declared.entry.Entry.{Entry}
 use Rattle.svn_folder.specs.declared.entry.Entry.TheVariants.{File}
 use Rattle.svn_folder.specs.declared.step.Step.{Step}
-use Rattle.svn_folder.specs.declared.step.Step.TheVariants.{Make, SyncFile, SyncDirectory, Rename, RenameDirectory, RemoveFile, RemoveDirectory}
-use Rattle.svn_folder.specs.States.{Seen, Place, State, seen, fresh, with_bytes}
-use Rattle.svn_folder.specs.Steps.{run, after}
-use Rattle.svn_folder.specs.Crashes.{MayLeave, RunMayLeave}
-use Rattle.svn_folder.specs.Laws.{is_apart, AreApart, IsOnDisk, CanReplace}
+use Rattle.svn_folder.specs.declared.step.Step.TheVariants.{Make, SyncFile, SyncDirectory, Rename, RenameDirectory}
+use Rattle.svn_folder.specs.Entries.{has_directory}
+use Rattle.svn_folder.specs.States.{Seen, Place, State, seen, fresh, becomes, with_name}
+use Rattle.svn_folder.specs.Steps.{run, after, is_none_older}
+use Rattle.svn_folder.specs.Crashes.{RunMayLeave}
+use Rattle.svn_folder.specs.Laws.{is_firm, AreApart, IsOnDisk, CanReplace}
 use Rattle.svn_folder.specs.Syncing.{IsSynced}
 use Rattle.svn_folder.specs.Pasts.{Past, Known}
-use Rattle.svn_folder.proofs.Showing.{put_here, sync_file-shown}
+use Rattle.svn_folder.proofs.Showing.{put_here, sync_file-shown, sync_directory-shown}
 use Rattle.svn_folder.proofs.Firm.{replaced}
 use Rattle.svn_folder.proofs.Apart.{meanwhile, run_apart}
 use Rattle.svn_folder.proofs.Runs.{left_former, run_join}
 use Rattle.svn_folder.proofs.Settled.{on_disk}
 use Rattle.svn_disk.specs.Goes.{IsAlways, Stands, Keeps, Stops}
-use Rattle.svn_disk.specs.Places.{is_inside, is_placing, is_outside, temporary_place, new_database_place, text_below, text_place, database_place}
-use Rattle.svn_disk.specs.Plans.{present_nodes}
+use Rattle.svn_disk.specs.Places.{is_inside, new_database_place, text_below, text_place, database_place}
 use Rattle.svn_disk.specs.Laws.{IsThereUnder}
-use Rattle.svn_disk.specs.Crashes.{IsTextOf, IsDatabaseOf, OfText, EachText, IsWhole, IsNoCopy, IsNoneOrWhole, IsFree, IsReady, IsSafe, IsSet, IsLasting, Leads, Breaks}
+use Rattle.svn_disk.specs.Crashes.{IsTextOf, IsDatabaseOf, OfText, EachText, IsTextIn, IsTextOn, IsWhole, IsNoCopy, IsNoneOrWhole, IsOneOf, IsFree, IsReady, IsSafe, IsBoth, IsSet, Leads, Breaks}
 use Rattle.svn_disk.proofs.Going.{stands_at_first}
 use Rattle.svn_disk.proofs.Leaving.{each_apart, no_copy_left}
 use Rattle.svn_disk.proofs.Moving.{renamed_at_once}
@@ -46,108 +46,78 @@ of_text P Q f (FileNode r q t ps) h = f t h
 of_text P Q f (DirNode r q c ps) h = tt
 of_text P Q f NotPresent h = tt
 
-pub each_text : (P Q : List ℕ → Type 0) → ((t : List ℕ) → P t → Q t) → (copy : List (Path × BaseNode)) → EachText P copy → EachText Q copy
+pub each_text : (P Q : List ℕ → Type 0) → ((t : List ℕ) → P t → Q t) → (nodes : List (Path × BaseNode)) → EachText P nodes → EachText Q nodes
 each_text P Q f [] h = tt
-each_text P Q f (entry ∷ copy) h = (of_text P Q f entry.1 h.0, each_text P Q f copy h.1)
+each_text P Q f (entry ∷ nodes) h = (of_text P Q f entry.1 h.0, each_text P Q f nodes h.1)
 
-same_text : (t : List ℕ) (old new : Option Entry) → new ≡ old → IsTextOf t old → IsTextOf t new
+pub same_text : (t : List ℕ) (old new : Option Entry) → new ≡ old → IsTextOf t old → IsTextOf t new
 same_text t old new same is = record { bytes = is.bytes; mode = is.mode; is_file = same ∙ is.is_file; is_text = is.is_text }
 
-same_database : (copy : List (Path × BaseNode)) (old new : Option Entry) → new ≡ old → IsDatabaseOf copy old → IsDatabaseOf copy new
-same_database copy old new same is = record { bytes = is.bytes; mode = is.mode; is_file = same ∙ is.is_file; stands = is.stands }
+pub same_database : (nodes : List (Path × BaseNode)) (old new : Option Entry) → new ≡ old → IsDatabaseOf nodes old → IsDatabaseOf nodes new
+same_database nodes old new same is = record { bytes = is.bytes; mode = is.mode; is_file = same ∙ is.is_file; stands = is.stands }
 
-whole_same : (m n : Name) (copy : List (Path × BaseNode)) (old new : Seen) → new (database_place n) ≡ old (database_place m)
-    → ((t : List ℕ) → IsTextOf t (old (text_place m t)) → new (text_place n t) ≡ old (text_place m t)) → IsWhole m copy old → IsWhole n copy new
-whole_same m n copy old new database texts whole = record {
-  database = same_database copy (old (database_place m)) (new (database_place n)) database whole.database;
-  texts = each_text (λ t. IsTextOf t (old (text_place m t))) (λ t. IsTextOf t (new (text_place n t)))
-      (λ t is. same_text t (old (text_place m t)) (new (text_place n t)) (texts t is) is) copy whole.texts;
+whole_same : (m n : Name) (nodes : List (Path × BaseNode)) (old new : Seen) → new (database_place n) ≡ old (database_place m)
+    → ((t : List ℕ) → IsTextOf t (old (text_place m t)) → new (text_place n t) ≡ old (text_place m t)) → IsWhole m nodes old → IsWhole n nodes new
+whole_same m n nodes old new database texts whole = record {
+  database = same_database nodes (old (database_place m)) (new (database_place n)) database whole.database;
+  texts = each_text (IsTextIn m old) (IsTextIn n new) (λ t is. same_text t (old (text_place m t)) (new (text_place n t)) (texts t is) is) nodes whole.texts;
 }
 
 -- ---- steps elsewhere
 
-module _ (copy : List (Path × BaseNode)) where
+module _ (n : Name) (nodes : List (Path × BaseNode)) (s : State) (more : List Step) (apart : (t : List ℕ) → IsTextOn n s t → AreApart more (text_place n t)) where
   -- the texts stay, and a crash leaves them
-  texts_apart : (s : State) (more : List Step) → ((t : List ℕ) → AreApart more (text_place svn t)) → IsSafe copy s
-      → EachText (λ t. IsTextOf t (seen (run s more) (text_place svn t)) × IsOnDisk (run s more) (text_place svn t)) copy
-  texts_apart s more apart safe =
-      each_text (λ t. IsTextOf t (seen s (text_place svn t)) × IsOnDisk s (text_place svn t))
-      (λ t. IsTextOf t (seen (run s more) (text_place svn t)) × IsOnDisk (run s more) (text_place svn t))
+  pub texts_apart : EachText (IsTextOn n s) nodes → EachText (IsTextOn n (run s more)) nodes
+  texts_apart texts =
+      each_text (IsTextOn n s) (IsTextOn n (run s more))
       (λ t is. (
-        same_text t (seen s (text_place svn t)) (seen (run s more) (text_place svn t)) (run_apart s more (text_place svn t) (apart t)) is.0,
-        (meanwhile s more (text_place svn t) is.1 (apart t)).1,
+        same_text t (seen s (text_place n t)) (seen (run s more) (text_place n t)) (run_apart s more (text_place n t) (apart t is)) is.0,
+        (meanwhile s more (text_place n t) is.1 (apart t is)).1,
       ))
-      copy safe.texts
+      nodes texts
 
-  texts_left : (s : State) (more : List Step) → ((t : List ℕ) → AreApart more (text_place svn t)) → IsSafe copy s → (left : Seen)
-      → RunMayLeave s more left → EachText (λ t. IsTextOf t (left (text_place svn t))) copy
-  texts_left s more apart safe left may =
-      each_text (λ t. IsTextOf t (seen s (text_place svn t)) × IsOnDisk s (text_place svn t)) (λ t. IsTextOf t (left (text_place svn t)))
-      (λ t is. same_text t (seen s (text_place svn t)) (left (text_place svn t)) ((meanwhile s more (text_place svn t) is.1 (apart t)).0 left may) is.0)
-      copy safe.texts
+  pub texts_left : EachText (IsTextOn n s) nodes → (left : Seen) → RunMayLeave s more left → EachText (IsTextIn n left) nodes
+  texts_left texts left may =
+      each_text (IsTextOn n s) (IsTextIn n left)
+      (λ t is. same_text t (seen s (text_place n t)) (left (text_place n t)) ((meanwhile s more (text_place n t) is.1 (apart t is)).0 left may) is.0)
+      nodes texts
 
-  pub safe_apart : (s : State) (more : List Step) → AreApart more (database_place svn) → ((t : List ℕ) → AreApart more (text_place svn t)) → IsSafe copy s
-      → IsSafe copy (run s more) × ((left : Seen) → RunMayLeave s more left → IsNoneOrWhole copy left)
-  safe_apart s more database texts safe =
-      let stays = meanwhile s more (database_place svn) safe.database.1 database in (
+  pub safe_apart : AreApart more (database_place n) → IsSafe n nodes s
+      → IsSafe n nodes (run s more) × ((left : Seen) → RunMayLeave s more left → IsWhole n nodes left)
+  safe_apart database safe =
+      let stays = meanwhile s more (database_place n) safe.database.1 database in (
         record {
           database = (
-            same_database copy (seen s (database_place svn)) (seen (run s more) (database_place svn)) (run_apart s more (database_place svn) database) safe.database.0,
+            same_database nodes (seen s (database_place n)) (seen (run s more) (database_place n)) (run_apart s more (database_place n) database) safe.database.0,
             stays.1,
           );
-          texts = texts_apart s more texts safe;
+          texts = texts_apart safe.texts;
         },
-        λ left may. inr (record {
-          database = same_database copy (seen s (database_place svn)) (left (database_place svn)) (stays.0 left may) safe.database.0;
-          texts = texts_left s more texts safe left may;
-        }),
+        λ left may. record {
+          database = same_database nodes (seen s (database_place n)) (left (database_place n)) (stays.0 left may) safe.database.0;
+          texts = texts_left safe.texts left may;
+        },
       )
 
--- ---- which steps are elsewhere
+-- a crash now
+pub safe_left : (n : Name) (nodes : List (Path × BaseNode)) (s : State) → IsSafe n nodes s → (left : Seen) → RunMayLeave s [] left → IsWhole n nodes left
+safe_left n nodes s safe left may = (safe_apart n nodes s [] (λ t is. tt) tt safe).1 left may
 
-not_and : (a b : Bool) → not a ≡ true → not (a && b) ≡ true
-not_and true b h = absurd (true≢false (sym h))
-not_and false b h = refl
+-- the same while the texts of a new copy are there
+module _ (old new : List (Path × BaseNode)) where
+  pub both_apart : (s : State) (more : List Step) → AreApart more (database_place svn) → ((t : List ℕ) → IsTextOn svn s t → AreApart more (text_place svn t))
+      → IsBoth old new s → IsBoth old new (run s more) × ((left : Seen) → RunMayLeave s more left → IsWhole svn old left)
+  both_apart s more database texts both =
+      let facts = safe_apart svn old s more texts database both.safe in
+      (record { safe = facts.0; texts = texts_apart svn new s more texts both.texts }, facts.1)
 
-outside_apart : (p r : Path) → is_outside p ≡ true → not (is_within p (svn ∷ r)) ≡ true
-outside_apart [] r h = absurd (true≢false (sym h))
-outside_apart (k ∷ p) r h = not_and (bytes_eq k svn) (is_within p r) h
-
-pub temporary_apart : (k : Name) (p r : Path) → bytes_eq (codes "tmp") k ≡ false → is_within (temporary_place svn) p ≡ true
-    → not (is_within p (svn ∷ k ∷ r)) ≡ true
-temporary_apart k p r other h =
-    let parts = split_within (temporary_place svn) p h in
-    subst (λ (x : Path). not (is_within x (svn ∷ k ∷ r)) ≡ true) (sym parts.1) (ap (λ b. not (b && is_within parts.0 r)) other)
-
-module _ (free : Path → Bool) (outside : (p : Path) → free p ≡ true → is_outside p ≡ true) (k : Name) (r : Path) (other : bytes_eq (codes "tmp") k ≡ false) where
-  placing_apart : (step : Step) → is_placing svn free step ≡ true → is_apart step (svn ∷ k ∷ r) ≡ true
-  placing_apart (Make p e t) h = outside_apart p (k ∷ r) (outside p h)
-  placing_apart (SyncFile p) h = refl
-  placing_apart (SyncDirectory p) h = refl
-  placing_apart (Rename p q) h =
-      let parts = and_parts (is_within (temporary_place svn) p) (free q) h in
-      ap (λ b. b && not (is_within q (svn ∷ k ∷ r))) (temporary_apart k p r other parts.0) ∙ outside_apart q (k ∷ r) (outside q parts.1)
-  placing_apart (RenameDirectory l m) h = absurd (true≢false (sym h))
-  placing_apart (RemoveFile p) h = absurd (true≢false (sym h))
-  placing_apart (RemoveDirectory p) h = absurd (true≢false (sym h))
-
-  each_placing_apart : (steps : List Step) → list_all (is_placing svn free) steps ≡ true → AreApart steps (svn ∷ k ∷ r)
-  each_placing_apart [] h = tt
-  each_placing_apart (step ∷ steps) h =
-      let parts = and_parts (is_placing svn free step) (list_all (is_placing svn free) steps) h in
-      (placing_apart step parts.0, each_placing_apart steps parts.1)
-
-pub safe_placing : (copy : List (Path × BaseNode)) (free : Path → Bool) → ((p : Path) → free p ≡ true → is_outside p ≡ true) → (s : State) (more : List Step)
-    → list_all (is_placing svn free) more ≡ true → IsSafe copy s
-    → IsSafe copy (run s more) × ((left : Seen) → RunMayLeave s more left → IsNoneOrWhole copy left)
-safe_placing copy free outside s more each safe =
-    safe_apart copy s more (each_placing_apart free outside (codes "wc.db") [] refl more each)
-    (λ t. each_placing_apart free outside (codes "pristine") (text_below t) refl more each) safe
+pub safe_both : (nodes : List (Path × BaseNode)) (s : State) → IsSafe svn nodes s → IsBoth nodes nodes s
+safe_both nodes s safe = record { safe = safe; texts = safe.texts }
 
 -- ---- the folder gets its name
 
-module _ (m : Name) (copy : List (Path × BaseNode)) (other : bytes_eq m svn ≡ false) where
-  module _ (s : State) (ready : IsReady m copy s) where
+module _ (m : Name) (nodes : List (Path × BaseNode)) (other : bytes_eq m svn ≡ false) where
+  module _ (s : State) (ready : IsReady m nodes s) where
     shown_on_disk : (p : Path) → is_some (seen s p) ≡ true → IsOnDisk s p
     shown_on_disk p h = on_disk s ready.synced p (ready.synced.inside p h)
 
@@ -157,45 +127,45 @@ module _ (m : Name) (copy : List (Path × BaseNode)) (other : bytes_eq m svn ≡
     text_on_disk : (t : List ℕ) → IsTextOf t (seen s (text_place m t)) → IsOnDisk s (text_place m t)
     text_on_disk t is = shown_on_disk (text_place m t) (ap is_some is.is_file)
 
-    whole_there : (left : Seen) → IsThereUnder s m svn left → IsWhole svn copy left
+    whole_there : (left : Seen) → IsThereUnder s m svn left → IsWhole svn nodes left
     whole_there left there =
-        whole_same m svn copy (seen s) left (there (codes "wc.db" ∷ []) database_on_disk)
+        whole_same m svn nodes (seen s) left (there (codes "wc.db" ∷ []) database_on_disk)
         (λ t is. there (codes "pristine" ∷ text_below t) (text_on_disk t is)) ready.whole
 
-    named_left : (left : Seen) → (left (svn ∷ []) ≡ None) ⊎ IsThereUnder s m svn left → IsNoneOrWhole copy left
+    named_left : (left : Seen) → (left (svn ∷ []) ≡ None) ⊎ IsThereUnder s m svn left → IsNoneOrWhole nodes left
     named_left left (inl none) = inl none
     named_left left (inr there) = inr (whole_there left there)
 
     safe_named : IsThereUnder s m svn (seen (after (RenameDirectory m svn) s))
-        → ((p : Path) → IsOnDisk s (m ∷ p) → IsOnDisk (after (RenameDirectory m svn) s) (svn ∷ p)) → IsSafe copy (after (RenameDirectory m svn) s)
+        → ((p : Path) → IsOnDisk s (m ∷ p) → IsOnDisk (after (RenameDirectory m svn) s) (svn ∷ p)) → IsSafe svn nodes (after (RenameDirectory m svn) s)
     safe_named there on = record {
       database = ((whole_there (seen (after (RenameDirectory m svn) s)) there).database, on (codes "wc.db" ∷ []) database_on_disk);
-      texts = each_text (λ t. IsTextOf t (seen s (text_place m t)))
-          (λ t. IsTextOf t (seen (after (RenameDirectory m svn) s) (text_place svn t)) × IsOnDisk (after (RenameDirectory m svn) s) (text_place svn t))
+      texts = each_text (IsTextIn m (seen s)) (IsTextOn svn (after (RenameDirectory m svn) s))
           (λ t is. (
             same_text t (seen s (text_place m t)) (seen (after (RenameDirectory m svn) s) (text_place svn t))
                 (there (codes "pristine" ∷ text_below t) (text_on_disk t is)) is,
             on (codes "pristine" ∷ text_below t) (text_on_disk t is),
           ))
-          copy ready.whole.texts;
+          nodes ready.whole.texts;
     }
 
-  pub ready_named : (s : State) → IsReady m copy s
-      → IsSafe copy (after (RenameDirectory m svn) s) × ((left : Seen) → RunMayLeave s (RenameDirectory m svn ∷ []) left → IsNoneOrWhole copy left)
+  pub ready_named : (s : State) → IsReady m nodes s
+      → IsSafe svn nodes (after (RenameDirectory m svn) s)
+      × ((left : Seen) → RunMayLeave s (RenameDirectory m svn ∷ []) left → IsNoneOrWhole nodes left)
   ready_named s ready =
       let law = renamed_at_once s m svn ready.synced other ready.free in
       (safe_named s ready law.1 law.2, λ left may. named_left s ready left (law.0 left may))
 
   -- ---- before it has its name
 
-  inside_none : (s : State) (more : List Step) → list_all (is_inside m) more ≡ true → IsFree s → (left : Seen) → RunMayLeave s more left → IsNoneOrWhole copy left
+  inside_none : (s : State) (more : List Step) → list_all (is_inside m) more ≡ true → IsFree s → (left : Seen) → RunMayLeave s more left → IsNoneOrWhole nodes left
   inside_none s more each free left may = inl (no_copy_left m s more left other each free may)
 
-  pub inside_breaks : (old new : Past) → Stops (is_inside m) old new → Breaks IsFree (IsNoneOrWhole copy) old new
-  inside_breaks old new stops = stops_breaks IsFree (IsNoneOrWhole copy) IsFree (is_inside m) old new inside_none stops
+  pub inside_breaks : (old new : Past) → Stops (is_inside m) old new → Breaks IsFree (IsNoneOrWhole nodes) old new
+  inside_breaks old new stops = stops_breaks IsFree (IsNoneOrWhole nodes) IsFree (is_inside m) old new inside_none stops
 
-  pub inside_leads : (old new : Past) → Keeps (is_inside m) old new → IsAlways IsSynced new → IsAlways (λ s. IsWhole m copy (seen s)) new
-      → Leads IsFree (IsNoneOrWhole copy) (IsReady m copy) old new
+  pub inside_leads : (old new : Past) → Keeps (is_inside m) old new → IsAlways IsSynced new → IsAlways (λ s. IsWhole m nodes (seen s)) new
+      → Leads IsFree (IsNoneOrWhole nodes) (IsReady m nodes) old new
   inside_leads old new keeps synced whole = record {
     each = λ s steps is free.
         let now = keeps.each s steps (subst (λ (x : Past). Stands (is_inside m) s steps x) (sym is) (stands_at_first (is_inside m) s steps)) in
@@ -206,7 +176,7 @@ module _ (m : Name) (copy : List (Path × BaseNode)) (other : bytes_eq m svn ≡
           ends = record {
             synced = subst IsSynced same (synced s (steps ++ now.more) now.past);
             free = run_apart (run s steps) now.more (svn ∷ []) (each_apart m svn [] other now.more now.each) ∙ free.free;
-            whole = subst (λ (t : State). IsWhole m copy (seen t)) same (whole s (steps ++ now.more) now.past);
+            whole = subst (λ (t : State). IsWhole m nodes (seen t)) same (whole s (steps ++ now.more) now.past);
           };
           meanwhile = inside_none (run s steps) now.more now.each free;
         };
@@ -220,71 +190,98 @@ from = new_database_place svn
 abbrev to : Path
 to = database_place svn
 
-module _ (copy : List (Path × BaseNode)) where
-  -- another database is there
+module _ (old new : List (Path × BaseNode)) where
+  -- a database of the new copy is there
   pub record IsMade (s : State) : Type 0 where
-    pub safe : IsSafe copy s
-    pub made : IsDatabaseOf copy (seen s from)
+    pub both : IsBoth old new s
+    pub made : IsDatabaseOf new (seen s from)
 
   -- it got its name
   abbrev pub IsPut : State → Type 0
-  IsPut t = (s : State) × IsSet copy s × (t ≡ after (Rename from to) s)
+  IsPut t = (s : State) × IsSet old new s × (t ≡ after (Rename from to) s)
 
-  pub made_there : (bytes : List ℕ) (mode : Mode) → StandsFor (present_nodes copy) bytes → (s : State) → IsSafe copy s
+  pub made_there : (bytes : List ℕ) (mode : Mode) → StandsFor new bytes → (s : State) → IsBoth old new s
       → IsMade (after (Make from (File bytes mode) None) s)
-      × ((left : Seen) → RunMayLeave s (Make from (File bytes mode) None ∷ []) left → IsNoneOrWhole copy left)
-  made_there bytes mode stands s safe =
-      let facts = safe_apart copy s (Make from (File bytes mode) None ∷ []) (refl, tt) (λ t. (refl, tt)) safe in (
+      × ((left : Seen) → RunMayLeave s (Make from (File bytes mode) None ∷ []) left → IsOneOf old new left)
+  made_there bytes mode stands s both =
+      let facts = both_apart old new s (Make from (File bytes mode) None ∷ []) (refl, tt) (λ t is. (refl, tt)) both in (
         record {
-          safe = facts.0;
+          both = facts.0;
           made = record { bytes = bytes; mode = mode; is_file = put_here from from (fresh (File bytes mode)) s (path_eq-same from); stands = stands };
         },
-        facts.1,
+        λ left may. inl (facts.1 left may),
       )
 
-  pub set_there : (s : State) → IsMade s → IsSet copy (after (SyncFile from) s) × ((left : Seen) → RunMayLeave s (SyncFile from ∷ []) left → IsNoneOrWhole copy left)
+  pub set_there : (s : State) → IsMade s
+      → IsSet old new (after (SyncFile from) s) × ((left : Seen) → RunMayLeave s (SyncFile from ∷ []) left → IsOneOf old new left)
   set_there s is =
-      let facts = safe_apart copy s (SyncFile from ∷ []) (refl, tt) (λ t. (refl, tt)) is.safe in (
+      let facts = both_apart old new s (SyncFile from ∷ []) (refl, tt) (λ t on. (refl, tt)) is.both in (
         record {
-          safe = facts.0;
-          made = same_database copy (seen s from) (seen (after (SyncFile from) s) from) (sync_file-shown from s from) is.made;
+          both = facts.0;
+          made = same_database new (seen s from) (seen (after (SyncFile from) s) from) (sync_file-shown from s from) is.made;
           synced = refl;
         },
-        facts.1,
+        λ left may. inl (facts.1 left may),
       )
 
   abbrev putting : List Step
   putting = Rename from to ∷ SyncDirectory (svn ∷ []) ∷ []
 
-  can_replace : (s : State) → IsSet copy s → CanReplace s from to
-  can_replace s is = record { way = is.safe.database.1.0; old = is.safe.database.1.1; new = is.synced; apart = refl; below = refl }
+  module _ (s : State) (is : IsSet old new s) where
+    can_replace : CanReplace s from to
+    can_replace =
+        record { way = is.both.safe.database.1.0; old = is.both.safe.database.1.1; new = is.synced; apart = refl; below = refl }
 
-  either_database : (s : State) → IsSet copy s → (found : Option Entry) → (found ≡ seen s to) ⊎ (found ≡ seen s from) → IsDatabaseOf copy found
-  either_database s is found (inl old) = same_database copy (seen s to) found old is.safe.database.0
-  either_database s is found (inr new) = same_database copy (seen s from) found new is.made
+    putting_left : (left : Seen) → RunMayLeave s putting left → IsOneOf old new left
+    putting_left left may = by ((replaced s from to left can_replace).0 may)
+      where
+        by : (left to ≡ seen s to) ⊎ (left to ≡ seen s from) → IsOneOf old new left
+        by (inl same) = inl (record {
+          database = same_database old (seen s to) (left to) same is.both.safe.database.0;
+          texts = texts_left svn old s putting (λ t on. (refl, (refl, tt))) is.both.safe.texts left may;
+        })
+        by (inr same) = inr (record {
+          database = same_database new (seen s from) (left to) same is.made;
+          texts = texts_left svn new s putting (λ t on. (refl, (refl, tt))) is.both.texts left may;
+        })
 
-  putting_left : (s : State) → IsSet copy s → (left : Seen) → RunMayLeave s putting left → IsWhole svn copy left
-  putting_left s is left may = record {
-    database = either_database s is (left to) ((replaced s from to left (can_replace s is)).0 may);
-    texts = texts_left copy s putting (λ t. (refl, (refl, tt))) is.safe left may;
-  }
+    -- the name of the folder is on the disk, so that its sync counts
+    folder_named : is_none_older (s (svn ∷ [])).older ≡ true
+    folder_named =
+        let way = and_parts (is_firm (s []) && has_directory (s []).now.entry) (is_firm (s (svn ∷ [])) && has_directory (s (svn ∷ [])).now.entry && true)
+        is.both.safe.database.1.0 in
+        let here = and_parts (is_firm (s (svn ∷ [])) && has_directory (s (svn ∷ [])).now.entry) true way.1 in
+        let firm = and_parts (is_firm (s (svn ∷ []))) (has_directory (s (svn ∷ [])).now.entry) here.0 in
+        (and_parts (is_none_older (s (svn ∷ [])).older) (s (svn ∷ [])).now.is_synced firm.0).0
 
-  pub put_there : (s : State) → IsSet copy s → IsPut (after (Rename from to) s) × ((left : Seen) → RunMayLeave s (Rename from to ∷ []) left → IsNoneOrWhole copy left)
-  put_there s is = (
-    (s, is, refl),
-    λ left may. inr (putting_left s is left (left_former s (Rename from to ∷ []) (SyncDirectory (svn ∷ []) ∷ []) left may)),
-  )
+    abbrev ended : State
+    ended = after (SyncDirectory (svn ∷ [])) (after (Rename from to) s)
 
-  -- a crash after that
-  put_lasts : (s : State) → IsSet copy s → IsLasting copy (after (SyncDirectory (svn ∷ [])) (after (Rename from to) s))
-  put_lasts s is left may = putting_left s is left (inr (inr (inr (inr may))))
+    place_ended : ended to ≡ with_name (becomes (s from).now (s to))
+    place_ended =
+        ap (λ b. cond b (with_name (becomes (s from).now (s to))) (becomes (s from).now (s to))) folder_named
 
-  put_left : (s : State) → IsSet copy s → (left : Seen) → RunMayLeave (after (Rename from to) s) (SyncDirectory (svn ∷ []) ∷ []) left → IsNoneOrWhole copy left
-  put_left s is left may = inr (putting_left s is left (inr (inr may)))
+    database_ended : IsDatabaseOf new (seen ended to) × IsOnDisk ended to
+    database_ended = (
+      same_database new (seen s from) (seen ended to) (ap (λ (place : Place). place.now.entry) place_ended) is.made,
+      (is.both.safe.database.1.0, ap is_firm place_ended ∙ is.synced),
+    )
+
+    pub put_safe : IsSafe svn new ended
+    put_safe = record { database = database_ended; texts = texts_apart svn new s putting (λ t on. (refl, (refl, tt))) is.both.texts }
+
+    pub put_there : IsPut (after (Rename from to) s) × ((left : Seen) → RunMayLeave s (Rename from to ∷ []) left → IsOneOf old new left)
+    put_there = (
+      (s, is, refl),
+      λ left may. putting_left left (left_former s (Rename from to ∷ []) (SyncDirectory (svn ∷ []) ∷ []) left may),
+    )
+
+    put_left : (left : Seen) → RunMayLeave (after (Rename from to) s) (SyncDirectory (svn ∷ []) ∷ []) left → IsOneOf old new left
+    put_left left may = putting_left left (inr (inr may))
 
   pub put_is_named : (t : State) → IsPut t
-      → IsLasting copy (after (SyncDirectory (svn ∷ [])) t) × ((left : Seen) → RunMayLeave t (SyncDirectory (svn ∷ []) ∷ []) left → IsNoneOrWhole copy left)
+      → IsSafe svn new (after (SyncDirectory (svn ∷ [])) t) × ((left : Seen) → RunMayLeave t (SyncDirectory (svn ∷ []) ∷ []) left → IsOneOf old new left)
   put_is_named t (s, is, same) =
-      subst (λ (x : State). IsLasting copy (after (SyncDirectory (svn ∷ [])) x)
-      × ((left : Seen) → RunMayLeave x (SyncDirectory (svn ∷ []) ∷ []) left → IsNoneOrWhole copy left))
-      (sym same) (put_lasts s is, put_left s is)
+      subst (λ (x : State). IsSafe svn new (after (SyncDirectory (svn ∷ [])) x)
+      × ((left : Seen) → RunMayLeave x (SyncDirectory (svn ∷ []) ∷ []) left → IsOneOf old new left))
+      (sym same) (put_safe s is, put_left s is)

@@ -5,7 +5,7 @@
 --     Goes P old result new      a call takes only steps that have P, and the system failed at none if it returns Ok
 --     Does taken old result new      a call takes only some of these steps
 --     TakesOne step old result new      a call takes just this step
-use Rattle.std.specs.Prelude.{◌≡◌, ◌⊎◌, Bool, true, List, [], ◌∷◌, ◌++◌, Result, OnOk, OnErr}
+use Rattle.std.specs.Prelude.{◌≡◌, ◌⊎◌, Bool, true, false, List, [], ◌∷◌, ◌++◌, Result, OnOk, OnErr}
 use Rattle.std.specs.List.{list_all}
 use Rattle.svn_folder.specs.declared.step.Step.{Step}
 use Rattle.svn_folder.specs.States.{State}
@@ -40,6 +40,10 @@ abbrev pub Does : {T : Type 0} → {E : Type 0} → List Step → Past → Resul
 Does taken old result new =
     OnOk result ((P : Step → Bool) → list_all P taken ≡ true → Keeps P old new)
     × OnErr result ((P : Step → Bool) → list_all P taken ≡ true → Stops P old new)
+
+-- it takes none at all
+abbrev pub no_step : Step → Bool
+no_step step = false
 
 -- ---- one step
 

@@ -1,4 +1,4 @@
--- What a checkout rests on when the administrative folder gets its name, and what its steps leave alone.
+-- What a checkout rests on when the administrative folder gets its name, and what its steps, and those of a change, leave alone.
 use Rattle.std.specs.Prelude.{◌≡◌, ◌⊎◌, ℕ, true, false, List, [], ◌∷◌, bytes_eq, codes, None}
 use Rattle.std.specs.List.{list_all}
 use Rattle.svn_types.specs.Names.{Path}
@@ -11,7 +11,7 @@ use Rattle.svn_folder.specs.Steps.{after, run}
 use Rattle.svn_folder.specs.Crashes.{RunMayLeave}
 use Rattle.svn_folder.specs.Syncing.{IsSynced}
 use Rattle.svn_folder.specs.Laws.{IsOnDisk}
-use Rattle.svn_disk.specs.Places.{is_node, is_of_copy}
+use Rattle.svn_disk.specs.Places.{is_node, is_of_copy, is_either, is_of_change}
 
 -- what was on the disk at a name in the folder, and below it, is there at another one
 abbrev pub IsThereUnder : State → List ℕ → List ℕ → Seen → Type 0
@@ -32,3 +32,9 @@ a_checkout_changes_nothing_else =
     (copy : List (Path × BaseNode)) (s : State) (steps : List Step) (p : Path) → is_within (codes ".svn-new" ∷ []) p ≡ false
     → is_within (codes ".svn" ∷ []) p ≡ false → ((q : Path) → is_node copy q ≡ true → is_within q p ≡ false)
     → list_all (is_of_copy copy) steps ≡ true → seen (run s steps) p ≡ seen s p
+
+-- Steps that bring a copy to another one leave what is shown at a path that isn't in the administrative folder, nor that of a node of either or below one.
+abbrev pub a_change_changes_nothing_else : Type 0
+a_change_changes_nothing_else =
+    (old new : List (Path × BaseNode)) (s : State) (steps : List Step) (p : Path) → is_within (codes ".svn" ∷ []) p ≡ false
+    → ((q : Path) → is_either old new q ≡ true → is_within q p ≡ false) → list_all (is_of_change old new) steps ≡ true → seen (run s steps) p ≡ seen s p

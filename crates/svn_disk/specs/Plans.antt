@@ -9,7 +9,8 @@ use Rattle.svn_types.specs.Paths.{is_root}
 use Rattle.svn_model.specs.declared.base_node.BaseNode.{BaseNode}
 use Rattle.svn_model.specs.declared.base_node.BaseNode.TheVariants.{File as FileNode, Dir as DirNode, NotPresent}
 use Rattle.svn_wcrows.specs.declared.work.Work.{Work}
-use Rattle.svn_wcrows.specs.declared.work.Work.TheVariants.{MakeDirectory, InstallFile, RemoveFile, RemoveDirectory}
+use Rattle.svn_wcrows.specs.declared.work.Work.TheVariants.{MakeDirectory, InstallFile}
+use Rattle.svn_wcrows.specs.Work.{place_of}
 
 abbrev pub present_at : Path → BaseNode → List (Path × BaseNode)
 present_at p (FileNode r q t ps) = (p, FileNode r q t ps) ∷ []
@@ -35,10 +36,7 @@ work_of = flat_map entry_work
 
 -- the path that work is about
 abbrev pub path_of : Work → Path
-path_of (MakeDirectory p) = p
-path_of (InstallFile p) = p
-path_of (RemoveFile p) = p
-path_of (RemoveDirectory p) = p
+path_of work = place_of work
 
 -- the stand-in of a file's text
 abbrev pub text_of_node : BaseNode → Option (List ℕ)

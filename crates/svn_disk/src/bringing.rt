@@ -1,199 +1,173 @@
 //! A working copy that is on disk, brought to another state: the old copy until one rename, and from then on the new one.
+ghost use Rattle.std.specs.Prelude.{◌≡◌, List, true, codes, Some, IfOk, OnOk};
+ghost use Rattle.std.specs.List.{list_all};
+ghost use Rattle.svn_types.specs.Names.{Path};
+ghost use Rattle.svn_model.specs.declared.base_node.BaseNode.{BaseNode};
+ghost use Rattle.svn_wcrows.specs.Copies.{StandsFor};
+ghost use Rattle.svn_folder.specs.Files.{is_sync};
+ghost use Rattle.svn_folder.specs.States.{seen};
+ghost use Rattle.svn_disk.specs.Goes.{Goes, IsAlways};
+ghost use Rattle.svn_disk.specs.Places.{is_inside, is_either, is_of_change};
+ghost use Rattle.svn_disk.specs.Plans.{path_of, text_of_node};
+ghost use Rattle.svn_disk.specs.Crashes.{IsTextIn, OfText, EachText, IsWhole, AreNodesOf, IsTextAt, IsThere, IsOldOrNew, IsSafe, IsKept, IsBoth, IsOneOf, IsAdding, LeavesFrom, AfterFrom, Runs};
 
 use crate::carry::replace_database;
-use crate::database_image::Images;
+use crate::checkout::refuse_reserved;
 use crate::doing::{Databases, Doing};
 use crate::existing::Existing;
 use crate::fault::DiskFault;
 use crate::known::KnownTexts;
-use crate::layout::Admin;
+use crate::layout::{Admin, is_outside};
 use crate::node_file::file_of;
 use crate::plan::{PathChange, Plan};
-use crate::prepared::{Prepared, prepare_unless_locked};
+use crate::preparing::Ready;
 use crate::refusals::refuse;
-use crate::rows::{RowMaker, Sizes};
+use crate::rows::Sizes;
 use crate::settle::settle;
 use crate::source::Source;
 use crate::task::Task;
-use crate::temporary::clear_temporary;
-use crate::texts::{Texts, has_text};
+use crate::texts::has_text;
 use crate::wanted::Wanted;
 use std::alloc::Global;
-use std::collections::BTreeMap;
 use svn_folder::{Folder, SyncedFolder};
-use svn_types::RelPath;
-use svn_wcdb::TableRow;
-use svn_wcrows::{Tables, Work, read_tables};
+use svn_model::BaseNode;
+use svn_types::{RelPath, Text};
+use svn_wcrows::Work;
 
-// What is brought where.
+/// What is brought where.
 #[derive(Clone, Copy)]
-struct Bringing<'a> {
-    alloc: Global,
-    admin: &'a Admin,
-    // The copy that is on disk.
-    existing: &'a Existing,
-    // What it is brought to.
-    wanted: &'a Wanted,
+pub(crate) struct Bringing<'a> {
+    pub(crate) alloc: Global,
+    pub(crate) admin: &'a Admin,
+    /// The copy that is on disk.
+    pub(crate) existing: &'a Existing,
+    /// What it is brought to.
+    pub(crate) wanted: &'a Wanted,
     // What becomes of each path.
     plan: &'a Plan<'a>,
     // Whether everything is brought to the disk before it counts.
     sync: bool,
 }
 
-// What is kept while files are prepared: the texts and their rows.
-#[derive(Drop)]
-struct Keeping {
-    texts: Texts,
-    rows: Vec<TableRow>,
-    sizes: Sizes,
-}
-
-// The rows that are there, to which others are added.
-fn kept_rows(alloc: Global, rows: &[TableRow]) -> Result<Vec<TableRow>, DiskFault> {
-    let mut kept = Vec::new(alloc);
-    for row in rows {
-        kept.push(TableRow {
-            rowid: row.rowid,
-            bytes: row.bytes.clone()?,
-        })?;
-    }
-    Ok(kept)
-}
-
 impl Bringing<'_> {
-    // Keeps the text of the file that comes to a path, and prepares the file under the name of its own that has that number.
-    fn prepare_file<F: Folder, S: Source>(
-        &self,
-        folder: &mut F,
-        source: &mut S,
-        keeping: &mut Keeping,
-        file: (&RelPath, usize),
-    ) -> Result<(), DiskFault> {
-        let (path, number) = file;
-        let Some(node) = self.wanted.copy.get(path) else {
-            return Ok(());
-        };
-        let Some((name, props)) = file_of(node) else {
-            return Ok(());
-        };
-        let rows = &mut keeping.rows;
-        let size = keeping
-            .texts
-            .keep_whole(folder, source, self.admin, rows, (path, name))?;
-        if !has_text(self.alloc, folder, self.admin, name)? {
-            return Err(DiskFault::NoText(path.clone()?));
-        }
-        let time = Some(self.wanted.time);
-        let what = Prepared { name, props, time };
-        let is_locked = self.existing.has_lock(node);
-        let is_file = prepare_unless_locked(
-            self.alloc,
-            folder,
-            self.admin,
-            number,
-            (&what, is_locked),
-        )?;
-        let size = if is_file { Some(size) } else { None };
-        keeping.sizes.insert(path.clone()?, size)?;
-        Ok(())
-    }
-
-    // Does so for all files that come.
-    fn prepare_files<F: Folder, S: Source>(
-        &self,
-        folder: &mut F,
-        source: &mut S,
-        keeping: &mut Keeping,
-        task: &Task,
-    ) -> Result<(), DiskFault> {
-        let mut number = 0usize;
-        for item in task.makings() {
-            if let Work::InstallFile(path) = item {
-                self.prepare_file(folder, source, keeping, (path, number))?;
-                number = number.saturating_add(1);
-            }
-        }
-        Ok(())
-    }
-
-    // The databases of the new copy, whose texts are kept and whose files are prepared.
-    fn images<S: Source>(
-        &self,
-        source: &S,
-        tables: Tables,
-        keeping: Keeping,
-    ) -> Result<Images, DiskFault> {
-        let Keeping { rows, sizes, .. } = keeping;
-        let maker = RowMaker {
-            alloc: self.alloc,
-            source,
-            existing: self.existing,
-            wanted: self.wanted,
-            sizes: &sizes,
-        };
-        let (node_rows, nodes) = maker.rows()?.into_parts();
-        let mut tables = tables;
-        tables.nodes = node_rows;
-        tables.pristine = rows;
-        tables.count_texts(self.alloc)?;
-        Ok(Images {
-            tables,
-            nodes,
-            owner: self.existing.owner,
-            change_counter: self.existing.numbers.change_counter,
-        })
-    }
-
-    // Keeps the texts, prepares the files, and makes the databases.
-    fn prepare_all<F: Folder, S: Source>(
-        &self,
-        folder: &mut F,
-        source: &mut S,
-        task: &Task,
-    ) -> Result<Images, DiskFault> {
-        clear_temporary(self.alloc, folder, self.admin)?;
-        let tables = read_tables(self.alloc, self.existing.database.as_slice())?;
-        let rows = kept_rows(self.alloc, &tables.pristine)?;
-        let mut keeping = Keeping {
-            texts: Texts::of_rows(self.alloc, &rows)?,
-            rows,
-            sizes: BTreeMap::new(self.alloc),
-        };
-        self.prepare_files(folder, source, &mut keeping, task)?;
-        self.images(source, tables, keeping)
-    }
-
     // Refuses a copy that was changed since it was looked at: the last look before the new one takes its place.
     fn look_again<F: Folder>(&self, folder: &F) -> Result<(), DiskFault> {
         self.existing.refuse_change(self.alloc, folder)?;
         refuse(self.alloc, folder, self.existing, self.plan)
     }
 
+    // Whether the old copy has this text at the path of a file that isn't written anew.
+    fn is_kept(&self, sizes: &Sizes, path: &RelPath, name: &Text) -> bool
+        ensures { result ≡ true → IsTextAt self.now.existing.now.copy path.now name.now }
+    {
+        match self.existing.copy.get(path) {
+            Some(old) => is_file_of(old, name) && !sizes.contains_key(path),
+            None => false,
+        }
+    }
+
+    // Refuses a file whose text isn't under its name. Of one that the old copy has there that is supposed.
+    fn refuse_no_text<F: Folder>(
+        &self,
+        folder: &F,
+        sizes: &Sizes,
+        entry: (&RelPath, &BaseNode),
+    ) -> Result<(), DiskFault>
+        ensures { OnOk result ((old : List (Path × BaseNode)) → AreNodesOf self.now.existing.now.copy old → IsAlways (λ s. EachText (IsTextIn self.now.admin.now.name (seen s)) old → OfText (IsTextIn self.now.admin.now.name (seen s)) entry.entry.1.now) (F.past folder.now)) }
+    {
+        let (path, node) = entry;
+        let Some((name, _)) = file_of(node) else {
+            return Ok(());
+        };
+        if self.is_kept(sizes, path, name) {
+            return Ok(());
+        }
+        if has_text(self.alloc, folder, self.admin, name)? {
+            Ok(())
+        } else {
+            Err(DiskFault::NoText(path.clone()?))
+        }
+    }
+
+    // Does so for all files of the new copy.
+    fn read_texts<F: Folder>(
+        &self,
+        folder: &F,
+        sizes: &Sizes,
+        nodes: &[(RelPath, BaseNode)],
+    ) -> Result<(), DiskFault>
+        ensures { OnOk result ((old : List (Path × BaseNode)) → AreNodesOf self.now.existing.now.copy old → IsAlways (λ s. EachText (IsTextIn self.now.admin.now.name (seen s)) old → EachText (IsTextIn self.now.admin.now.name (seen s)) nodes.now) (F.past folder.now)) }
+    {
+        let mut rest = nodes;
+        'nodes: while let Some((first, after)) = rest.split_first() {
+            self.refuse_no_text(folder, sizes, (&first.0, &first.1))?;
+            rest = after;
+        }
+        Ok(())
+    }
+
+    // Brings all that was prepared to the disk, and looks at everything once more.
+    fn settle_all<F: Folder>(
+        &self,
+        folder: &mut SyncedFolder<F>,
+        sizes: &Sizes,
+        nodes: &[(RelPath, BaseNode)],
+    ) -> Result<(), DiskFault>
+        requires { self.now.admin.now.name ≡ codes ".svn" }
+        ensures steps { Goes is_sync (F.past folder.old.folder) result (F.past folder.new.folder) }
+        ensures crash { self.now.sync ≡ true → (old : List (Path × BaseNode)) → AreNodesOf self.now.existing.now.copy old → Runs (IsSafe (codes ".svn") old) (IsWhole (codes ".svn") old) (IsBoth old nodes.now) (F.past folder.old.folder) result (F.past folder.new.folder) }
+    {
+        settle(self.alloc, folder, self.sync)?;
+        self.look_again(folder)?;
+        self.read_texts(folder, sizes, nodes)
+    }
+
+    // Puts a database of the new copy in place of the old one, once all is on the disk.
+    fn put<F: Folder>(
+        &self,
+        folder: &mut SyncedFolder<F>,
+        ready: &Ready,
+        image: Vec<u8>,
+    ) -> Result<(), DiskFault>
+        requires name { self.now.admin.now.name ≡ codes ".svn" }
+        requires image { StandsFor ready.now.images.nodes.items image.items }
+        ensures steps { Goes (is_inside (codes ".svn")) (F.past folder.old.folder) result (F.past folder.new.folder) }
+        ensures crash { self.now.sync ≡ true → (old : List (Path × BaseNode)) → AreNodesOf self.now.existing.now.copy old → Runs (IsSafe (codes ".svn") old) (IsOneOf old ready.now.images.nodes.items) (IsSafe (codes ".svn") ready.now.images.nodes.items) (F.past folder.old.folder) result (F.past folder.new.folder) }
+    {
+        self.settle_all(folder, &ready.sizes, &ready.images.nodes)?;
+        replace_database(self.alloc, folder, self.admin, image, self.sync)
+    }
+
     // Puts the new copy in place of the old one, where nothing else changes on disk.
     fn record<F: Folder>(
         &self,
         folder: &mut SyncedFolder<F>,
-        mut images: Images,
-    ) -> Result<(), DiskFault> {
-        let end = images.next(self.alloc, &[])?;
-        settle(self.alloc, folder, self.sync)?;
-        self.look_again(folder)?;
-        replace_database(self.alloc, folder, self.admin, end, self.sync)
+        mut ready: Ready,
+    ) -> Result<(), DiskFault>
+        requires { self.now.admin.now.name ≡ codes ".svn" }
+        ensures steps { Goes (is_inside (codes ".svn")) (F.past folder.old.folder) result (F.past folder.new.folder) }
+        ensures crash { self.now.sync ≡ true → (old : List (Path × BaseNode)) → AreNodesOf self.now.existing.now.copy old → Runs (IsSafe (codes ".svn") old) (IsOneOf old ready.images.nodes.items) (IsSafe (codes ".svn") ready.images.nodes.items) (F.past folder.old.folder) result (F.past folder.new.folder) }
+    {
+        let end = ready.images.next(self.alloc, &[])?;
+        self.put(folder, &ready, end)
     }
 
     // Puts the new copy in place of the old one, and does the work that is left.
     fn change<F: Folder>(
         &self,
         folder: &mut SyncedFolder<F>,
-        mut images: Images,
+        mut ready: Ready,
         task: &Task,
-    ) -> Result<(), DiskFault> {
-        let known = KnownTexts::of(self.alloc, &images.tables.pristine)?;
-        let first = images.next(self.alloc, &task.work)?;
-        let databases = Databases::after(self.alloc, &mut images, task)?;
-        settle(self.alloc, folder, self.sync)?;
-        self.look_again(folder)?;
-        replace_database(self.alloc, folder, self.admin, first, self.sync)?;
+    ) -> Result<(), DiskFault>
+        requires name { self.now.admin.now.name ≡ codes ".svn" }
+        requires task { list_all (λ item. is_either self.now.existing.now.copy self.now.wanted.now.copy (path_of item)) task.now.work.items ≡ true }
+        ensures steps { Goes (is_of_change self.now.existing.now.copy self.now.wanted.now.copy) (F.past folder.old.folder) result (F.past folder.new.folder) }
+        ensures crash { self.now.sync ≡ true → (old : List (Path × BaseNode)) → AreNodesOf self.now.existing.now.copy old → Runs (IsSafe (codes ".svn") old) (IsOneOf old ready.images.nodes.items) (IsSafe (codes ".svn") ready.images.nodes.items) (F.past folder.old.folder) result (F.past folder.new.folder) }
+    {
+        let known = KnownTexts::of(self.alloc, &ready.images.tables.pristine)?;
+        let first = ready.images.next(self.alloc, &task.work)?;
+        let databases = Databases::after(self.alloc, &mut ready.images, task)?;
+        self.put(folder, &ready, first)?;
         let doing = Doing {
             alloc: self.alloc,
             admin: self.admin,
@@ -204,19 +178,79 @@ impl Bringing<'_> {
         doing.carry_on(folder, databases)
     }
 
+    // Whether some work is at a path of one of the copies, and not in the administrative folder.
+    fn is_of_either(&self, path: &RelPath) -> bool
+        ensures { result ≡ is_either self.now.existing.now.copy self.now.wanted.now.copy path.now }
+    {
+        is_outside(path)
+            && (self.existing.copy.get(path).is_some() || self.wanted.copy.get(path).is_some())
+    }
+
+    // Refuses work that is somewhere else: a fault of this crate.
+    fn refuse_elsewhere(&self, work: &[Work]) -> Result<(), DiskFault>
+        ensures { OnOk result (list_all (λ item. is_either self.now.existing.now.copy self.now.wanted.now.copy (path_of item)) work.now ≡ true) }
+    {
+        let mut rest = work;
+        'work: while let Some((item, after)) = rest.split_first() {
+            if !self.is_of_either(item.path()) {
+                return Err(DiskFault::Elsewhere(item.path().clone()?));
+            }
+            rest = after;
+        }
+        Ok(())
+    }
+
+    // What is left to do on disk.
+    fn task(&self) -> Result<Task, DiskFault>
+        ensures { IfOk result (λ task. list_all (λ item. is_either self.now.existing.now.copy self.now.wanted.now.copy (path_of item)) task.work.items ≡ true) }
+    {
+        let task = Task::of_plan(self.alloc, self.plan)?;
+        self.refuse_elsewhere(&task.work)?;
+        Ok(task)
+    }
+
+    // Puts the new copy in place of the old one.
+    fn finish<F: Folder>(
+        &self,
+        folder: &mut SyncedFolder<F>,
+        ready: Ready,
+        task: &Task,
+    ) -> Result<(), DiskFault>
+        requires name { self.now.admin.now.name ≡ codes ".svn" }
+        requires task { list_all (λ item. is_either self.now.existing.now.copy self.now.wanted.now.copy (path_of item)) task.now.work.items ≡ true }
+        ensures steps { Goes (is_of_change self.now.existing.now.copy self.now.wanted.now.copy) (F.past folder.old.folder) result (F.past folder.new.folder) }
+        ensures crash { self.now.sync ≡ true → (old : List (Path × BaseNode)) → AreNodesOf self.now.existing.now.copy old → Runs (IsSafe (codes ".svn") old) (IsOneOf old ready.images.nodes.items) (IsSafe (codes ".svn") ready.images.nodes.items) (F.past folder.old.folder) result (F.past folder.new.folder) }
+    {
+        if task.is_empty() {
+            self.record(folder, ready)
+        } else {
+            self.change(folder, ready, task)
+        }
+    }
+
     // Brings the copy to the other state.
     fn bring<F: Folder, S: Source>(
         &self,
         folder: &mut SyncedFolder<F>,
         source: &mut S,
-    ) -> Result<(), DiskFault> {
-        let task = Task::of_plan(self.alloc, self.plan)?;
-        let images = self.prepare_all(folder, source, &task)?;
-        if task.is_empty() {
-            self.record(folder, images)
-        } else {
-            self.change(folder, images, &task)
-        }
+    ) -> Result<(), DiskFault>
+        requires { self.now.admin.now.name ≡ codes ".svn" }
+        ensures steps { Goes (is_of_change self.now.existing.now.copy self.now.wanted.now.copy) (F.past folder.old.folder) result (F.past folder.new.folder) }
+        ensures crash { self.now.sync ≡ true → Runs (IsKept self.now.existing.now.copy) (IsOldOrNew self.now.existing.now.copy self.now.wanted.now.copy) (IsKept self.now.wanted.now.copy) (F.past folder.old.folder) result (F.past folder.new.folder) }
+    {
+        let task = self.task()?;
+        let ready = self.prepare_all(folder, source, &task)?;
+        self.finish(folder, ready, &task)
+    }
+}
+
+// Whether it is a file with this text.
+fn is_file_of(node: &BaseNode, name: &Text) -> bool
+    ensures { result ≡ true → text_of_node node.now ≡ Some name.now }
+{
+    match file_of(node) {
+        Some((text, _)) => text == name,
+        None => false,
     }
 }
 
@@ -227,7 +261,10 @@ fn plan_of<'a, F: Folder>(
     existing: &'a Existing,
     wanted: &'a Wanted,
 ) -> Result<Plan<'a>, DiskFault> {
+    refuse_reserved(&existing.copy)?;
+    refuse_reserved(&wanted.copy)?;
     let mut plan = Plan::between(alloc, &existing.copy, &wanted.copy)?;
+    plan.restore_nodes(&wanted.restored)?;
     plan.restore(alloc, folder)?;
     refuse(alloc, folder, existing, &plan)?;
     Ok(plan)
@@ -245,12 +282,13 @@ pub fn changes<F: Folder>(
 }
 
 /// Brings a copy that is on disk, and in which no work is left, to another state, and returns the paths that changed, in path order; none where nothing
-/// differs, and then nothing is touched. With `sync` everything is brought to the disk, each time before it counts.
+/// differs, and then nothing is touched. With `sync` everything is brought to the disk, each time before it counts: a crash leaves the old copy or the new
+/// one, and one after it the new one, if the old one was on the disk with each of its texts.
 ///
-/// Refused before anything is changed: Local, NoDirectory, Changed and InTheWay at the first path where something is in the way. Then NoText at the first file
-/// whose text isn't given, Folder, Rows, Path and Memory, and InUse, or what is refused before, where something was changed since it was looked at: the copy
-/// is the old one. Once the new database has its name, Changed where a file was edited since, and Folder: the copy is the new one, with work left that
-/// [`resume`](crate::resume) and `svn cleanup` do.
+/// Refused before anything is changed: Reserved at the first node named `.svn` of the old copy, or else of the new one; Local, NoDirectory, Changed and
+/// InTheWay at the first path where something is in the way. Then NoText at the first file whose text isn't given, Folder, Rows, Path and Memory, and
+/// InUse, or what is refused before, where something was changed since it was looked at: the copy is the old one. Once the new database has its name,
+/// Changed where a file was edited since, and Folder: the copy is the new one, with work left that [`resume`](crate::resume) and `svn cleanup` do.
 pub fn bring<F: Folder, S: Source>(
     alloc: Global,
     folder: &mut SyncedFolder<F>,
@@ -258,19 +296,39 @@ pub fn bring<F: Folder, S: Source>(
     existing: &Existing,
     wanted: &Wanted,
     sync: bool,
-) -> Result<Vec<PathChange>, DiskFault> {
+) -> Result<Vec<PathChange>, DiskFault>
+    ensures steps { Goes (is_of_change existing.now.copy wanted.now.copy) (F.past folder.old.folder) result (F.past folder.new.folder) }
+    ensures crash { sync ≡ true → LeavesFrom (IsKept existing.now.copy) (IsOldOrNew existing.now.copy wanted.now.copy) (F.past folder.old.folder) (F.past folder.new.folder) }
+    ensures after { sync ≡ true → OnOk result (AfterFrom (IsKept existing.now.copy) (IsThere wanted.now.copy) (F.past folder.old.folder) (F.past folder.new.folder)) }
+{
     let plan = plan_of(alloc, folder, existing, wanted)?;
-    if !plan.is_empty() {
-        let admin = Admin::of_copy(alloc)?;
-        let bringing = Bringing {
-            alloc,
-            admin: &admin,
-            existing,
-            wanted,
-            plan: &plan,
-            sync,
-        };
-        bringing.bring(folder, source)?;
-    }
+    bring_by(alloc, folder, source, (existing, wanted, &plan), sync)?;
     plan.into_changes(alloc)
+}
+
+// Brings it there, if something differs.
+fn bring_by<F: Folder, S: Source>(
+    alloc: Global,
+    folder: &mut SyncedFolder<F>,
+    source: &mut S,
+    what: (&Existing, &Wanted, &Plan<'_>),
+    sync: bool,
+) -> Result<(), DiskFault>
+    ensures steps { Goes (is_of_change what.entry.0.now.copy what.entry.1.now.copy) (F.past folder.old.folder) result (F.past folder.new.folder) }
+    ensures crash { sync ≡ true → Runs (IsKept what.entry.0.now.copy) (IsOldOrNew what.entry.0.now.copy what.entry.1.now.copy) (IsKept what.entry.1.now.copy) (F.past folder.old.folder) result (F.past folder.new.folder) }
+{
+    let (existing, wanted, plan) = what;
+    if existing.copy.nodes() == wanted.copy.nodes() && plan.is_empty() {
+        return Ok(());
+    }
+    let admin = Admin::of_copy(alloc)?;
+    let bringing = Bringing {
+        alloc,
+        admin: &admin,
+        existing,
+        wanted,
+        plan,
+        sync,
+    };
+    bringing.bring(folder, source)
 }

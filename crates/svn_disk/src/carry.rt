@@ -7,8 +7,8 @@ ghost use Rattle.svn_wcrows.specs.Copies.{StandsFor};
 ghost use Rattle.svn_folder.specs.Files.{is_sync};
 ghost use Rattle.svn_disk.specs.Goes.{Goes};
 ghost use Rattle.svn_disk.specs.Places.{is_inside, is_placing};
-ghost use Rattle.svn_disk.specs.Plans.{present_nodes, path_of};
-ghost use Rattle.svn_disk.specs.Crashes.{IsNoneOrWhole, IsSafe, IsSet, IsLasting, Runs};
+ghost use Rattle.svn_disk.specs.Plans.{path_of};
+ghost use Rattle.svn_disk.specs.Crashes.{IsOneOf, IsSafe, IsBoth, IsSet, Runs};
 
 use crate::fault::DiskFault;
 use crate::layout::Admin;
@@ -49,8 +49,8 @@ fn make_directories<F: Folder>(
     Ok(())
 }
 
-// How many files it places.
-fn files_in(item: &Work) -> usize {
+/// How many files an item of work places.
+pub(crate) fn files_in(item: &Work) -> usize {
     match item {
         Work::InstallFile(_) => 1,
         Work::MakeDirectory(_) | Work::RemoveFile(_) | Work::RemoveDirectory(_) => 0,
@@ -90,8 +90,8 @@ fn place_files<F: Folder>(
     Ok(())
 }
 
-// The directories in which the work is.
-fn parents(alloc: Global, work: &[Work]) -> Result<BTreeSet<RelPath>, DiskFault> {
+/// The directories in which work is.
+pub(crate) fn parents(alloc: Global, work: &[Work]) -> Result<BTreeSet<RelPath>, DiskFault> {
     let mut parents = BTreeSet::new(alloc);
     for item in work {
         if let Some(parent) = item.path().parent(alloc)? {
@@ -139,7 +139,7 @@ fn make_database<F: Folder>(
     sync: bool,
 ) -> Result<(), DiskFault>
     ensures steps { Goes (is_inside admin.now.name) (F.past folder.old) result (F.past folder.new) }
-    ensures crash { sync ≡ true → admin.now.name ≡ codes ".svn" → (copy : List (Path × BaseNode)) → StandsFor (present_nodes copy) image.items → Runs (IsSafe copy) (IsNoneOrWhole copy) (IsSet copy) (F.past folder.old) result (F.past folder.new) }
+    ensures crash { sync ≡ true → admin.now.name ≡ codes ".svn" → (one two : List (Path × BaseNode)) → StandsFor two image.items → Runs (IsBoth one two) (IsOneOf one two) (IsSet one two) (F.past folder.old) result (F.past folder.new) }
 {
     let new = admin.new_database(alloc)?;
     let entry = Entry::File(Text::new(image), Mode::PLAIN);
@@ -156,7 +156,7 @@ fn put_database<F: Folder>(
     sync: bool,
 ) -> Result<(), DiskFault>
     ensures steps { Goes (is_inside admin.now.name) (F.past folder.old) result (F.past folder.new) }
-    ensures crash { sync ≡ true → admin.now.name ≡ codes ".svn" → (copy : List (Path × BaseNode)) → Runs (IsSet copy) (IsNoneOrWhole copy) (IsLasting copy) (F.past folder.old) result (F.past folder.new) }
+    ensures crash { sync ≡ true → admin.now.name ≡ codes ".svn" → (one two : List (Path × BaseNode)) → Runs (IsSet one two) (IsOneOf one two) (IsSafe (codes ".svn") two) (F.past folder.old) result (F.past folder.new) }
 {
     let new = admin.new_database(alloc)?;
     let database = admin.database(alloc)?;
@@ -165,7 +165,8 @@ fn put_database<F: Folder>(
     take_if(folder, Step::SyncDirectory(above), sync)
 }
 
-/// Puts a database in place of the one that is there; with `sync` its bytes are on the disk before, and its name after.
+/// Puts a database in place of the one that is there; with `sync` its bytes are on the disk before, and its name after. It may be of another copy, whose
+/// texts are there as well: a crash leaves the one copy or the other.
 pub(crate) fn replace_database<F: Folder>(
     alloc: Global,
     folder: &mut F,
@@ -174,7 +175,7 @@ pub(crate) fn replace_database<F: Folder>(
     sync: bool,
 ) -> Result<(), DiskFault>
     ensures steps { Goes (is_inside admin.now.name) (F.past folder.old) result (F.past folder.new) }
-    ensures crash { sync ≡ true → admin.now.name ≡ codes ".svn" → (copy : List (Path × BaseNode)) → StandsFor (present_nodes copy) image.items → Runs (IsSafe copy) (IsNoneOrWhole copy) (IsLasting copy) (F.past folder.old) result (F.past folder.new) }
+    ensures crash { sync ≡ true → admin.now.name ≡ codes ".svn" → (one two : List (Path × BaseNode)) → StandsFor two image.items → Runs (IsBoth one two) (IsOneOf one two) (IsSafe (codes ".svn") two) (F.past folder.old) result (F.past folder.new) }
 {
     make_database(alloc, folder, admin, image, sync)?;
     put_database(alloc, folder, admin, sync)

@@ -5,7 +5,7 @@ ghost use Rattle.svn_wcrows.specs.Copies.{StandsFor};
 ghost use Rattle.svn_folder.specs.declared.step.Step.TheVariants.{RenameDirectory};
 ghost use Rattle.svn_folder.specs.States.{seen};
 ghost use Rattle.svn_folder.specs.Syncing.{IsSyncedPast};
-ghost use Rattle.svn_disk.specs.Crashes.{IsWhole, IsNoneOrWhole, IsFree, IsSafe, IsLasting, Leaves, LeavesAfter, Runs};
+ghost use Rattle.svn_disk.specs.Crashes.{IsWhole, IsNoneOrWhole, IsFree, IsSafe, Leaves, LeavesAfter, Runs};
 ghost use Rattle.svn_disk.specs.Goes.{Goes, Does, TakesOne, IsAlways};
 ghost use Rattle.svn_disk.specs.Places.{is_inside, is_reserved, is_of_copy};
 ghost use Rattle.svn_disk.specs.Plans.{present_nodes, work_of};
@@ -328,7 +328,7 @@ fn lay_out_on_disk<F: Folder, S: Source>(
     requires { contents.now.nodes.items ≡ present_nodes what.now.copy.now }
     ensures steps { Goes (is_inside admin.now.name) (F.past folder.old.folder) result (F.past folder.new.folder) }
     ensures synced { what.now.sync ≡ true → OnOk result (IsSyncedPast (F.past folder.new.folder)) }
-    ensures whole { OnOk result (IsAlways (λ s. IsWhole admin.now.name what.now.copy.now (seen s)) (F.past folder.new.folder)) }
+    ensures whole { OnOk result (IsAlways (λ s. IsWhole admin.now.name (present_nodes what.now.copy.now) (seen s)) (F.past folder.new.folder)) }
 {
     let LaidOut { progress, image } = lay_out(alloc, folder, source, what, contents, admin)?;
     settle(alloc, folder, what.sync)?;
@@ -356,7 +356,7 @@ fn make_copy<F: Folder, S: Source>(
 ) -> Result<Vec<u8>, DiskFault>
     requires { contents.now.nodes.items ≡ present_nodes what.now.copy.now }
     ensures steps { Goes (is_of_copy what.now.copy.now) (F.past folder.old.folder) result (F.past folder.new.folder) }
-    ensures crash { what.now.sync ≡ true → Runs IsFree (IsNoneOrWhole what.now.copy.now) (IsSafe what.now.copy.now) (F.past folder.old.folder) result (F.past folder.new.folder) }
+    ensures crash { what.now.sync ≡ true → Runs IsFree (IsNoneOrWhole (present_nodes what.now.copy.now)) (IsSafe (codes ".svn") (present_nodes what.now.copy.now)) (F.past folder.old.folder) result (F.past folder.new.folder) }
     ensures image { IfOk result (λ image. StandsFor (present_nodes what.now.copy.now) image.items) }
 {
     let admin = Admin::of_new(alloc)?;
@@ -378,7 +378,7 @@ fn finish_copy<F: Folder>(
     requires work { contents.now.work.items ≡ work_of what.now.copy.now }
     requires image { StandsFor (present_nodes what.now.copy.now) end.items }
     ensures steps { Goes (is_of_copy what.now.copy.now) (F.past folder.old) result (F.past folder.new) }
-    ensures crash { what.now.sync ≡ true → Runs (IsSafe what.now.copy.now) (IsNoneOrWhole what.now.copy.now) (IsLasting what.now.copy.now) (F.past folder.old) result (F.past folder.new) }
+    ensures crash { what.now.sync ≡ true → Runs (IsSafe (codes ".svn") (present_nodes what.now.copy.now)) (IsNoneOrWhole (present_nodes what.now.copy.now)) (IsSafe (codes ".svn") (present_nodes what.now.copy.now)) (F.past folder.old) result (F.past folder.new) }
 {
     let admin = Admin::of_copy(alloc)?;
     carry_out(alloc, folder, &admin, &contents.work, what.sync)?;
@@ -409,8 +409,8 @@ pub fn check_out<F: Folder, S: Source>(
     what: &Checkout<'_>,
 ) -> Result<(), DiskFault>
     ensures steps { Goes (is_of_copy what.now.copy.now) (F.past folder.old.folder) result (F.past folder.new.folder) }
-    ensures crash { what.now.sync ≡ true → Leaves (IsNoneOrWhole what.now.copy.now) (F.past folder.old.folder) (F.past folder.new.folder) }
-    ensures after { what.now.sync ≡ true → OnOk result (LeavesAfter (IsWhole (codes ".svn") what.now.copy.now) (F.past folder.old.folder) (F.past folder.new.folder)) }
+    ensures crash { what.now.sync ≡ true → Leaves (IsNoneOrWhole (present_nodes what.now.copy.now)) (F.past folder.old.folder) (F.past folder.new.folder) }
+    ensures after { what.now.sync ≡ true → OnOk result (LeavesAfter (IsWhole (codes ".svn") (present_nodes what.now.copy.now)) (F.past folder.old.folder) (F.past folder.new.folder)) }
 {
     refuse_reserved(what.copy)?;
     refuse_taken(alloc, folder, what.copy)?;

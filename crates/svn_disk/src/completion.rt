@@ -1,6 +1,15 @@
 //! What was cut off, completed.
+ghost use Rattle.std.specs.Prelude.{◌≡◌, ◌⊎◌, List, true, codes, IfOk, OnOk};
+ghost use Rattle.std.specs.List.{list_all};
+ghost use Rattle.svn_types.specs.Names.{Path};
+ghost use Rattle.svn_model.specs.declared.base_node.BaseNode.{BaseNode};
+ghost use Rattle.svn_disk.specs.Goes.{Goes};
+ghost use Rattle.svn_disk.specs.Places.{is_inside, is_temporary, is_outside, is_doing};
+ghost use Rattle.svn_disk.specs.Plans.{path_of};
+ghost use Rattle.svn_disk.specs.Crashes.{IsThere, IsWhole, IsSafe, IsKept, AreOfNodes, LeavesFrom, AfterFrom, Runs};
 
 use crate::above::above_of;
+use crate::carry::files_in;
 use crate::clearing::clear;
 use crate::doing::{Databases, Doing};
 use crate::existing::Existing;
@@ -10,7 +19,7 @@ use crate::layout::Admin;
 use crate::node_file::file_of;
 use crate::on_disk::{Found, find};
 use crate::prepared::{Prepared, prepare_unless_locked};
-use crate::steps::remove_if_any;
+use crate::steps::{remove_if_any, sync_files};
 use crate::task::Task;
 use crate::texts::has_text;
 use std::alloc::Global;
@@ -173,53 +182,143 @@ impl Looking<'_> {
     }
 }
 
-// Prepares a file anew, under the name that it had. Returns its path there if its bytes are to reach the disk.
-fn prepare_again<F: Folder>(
+// What files are prepared from anew.
+#[derive(Clone, Copy)]
+struct Again<'a> {
     alloc: Global,
-    folder: &mut F,
-    admin: &Admin,
-    existing: &Existing,
-    file: (usize, &RelPath),
-) -> Result<Option<RelPath>, DiskFault> {
-    let (number, path) = file;
-    let Some((name, props)) = file_at(existing, path) else {
-        return Err(DiskFault::Foreign);
-    };
-    let is_locked = match existing.copy.get(path) {
-        Some(node) => existing.has_lock(node),
-        None => false,
-    };
-    let new = admin.new_file(alloc, number)?;
-    remove_if_any(alloc, folder, &new)?;
-    let time = existing.time_of(path);
-    let what = Prepared { name, props, time };
-    let is_file = prepare_unless_locked(alloc, folder, admin, number, (&what, is_locked))?;
-    Ok(if is_file { Some(new) } else { None })
+    admin: &'a Admin,
+    existing: &'a Existing,
 }
 
-// Prepares each file anew, and brings their bytes to the disk if `sync` says so.
-fn prepare_all_again<F: Folder>(
-    alloc: Global,
-    folder: &mut F,
-    admin: &Admin,
-    existing: &Existing,
-    work: &[Work],
-    sync: bool,
-) -> Result<(), DiskFault> {
-    let mut number = 0usize;
-    let mut files = Vec::new(alloc);
-    for item in work {
-        if let Work::InstallFile(path) = item {
-            if let Some(file) = prepare_again(alloc, folder, admin, existing, (number, path))? {
-                files.push(file)?;
-            }
-            number = number.saturating_add(1);
+impl Again<'_> {
+    // Whether the client has locked the file at a path in the repository.
+    fn is_locked(&self, path: &RelPath) -> bool {
+        match self.existing.copy.get(path) {
+            Some(node) => self.existing.has_lock(node),
+            None => false,
         }
     }
-    if sync {
-        folder.sync_files(&files)?;
+
+    // Prepares a file anew, under the name that it had. Returns its path there if its bytes are to reach the disk.
+    fn prepare_file<F: Folder>(
+        &self,
+        folder: &mut F,
+        path: &RelPath,
+        number: usize,
+    ) -> Result<Option<RelPath>, DiskFault>
+        ensures { Goes (is_temporary self.now.admin.now.name) (F.past folder.old) result (F.past folder.new) }
+    {
+        let Some((name, props)) = file_at(self.existing, path) else {
+            return Err(DiskFault::Foreign);
+        };
+        let new = self.admin.new_file(self.alloc, number)?;
+        remove_if_any(self.alloc, folder, &new)?;
+        let time = self.existing.time_of(path);
+        let what = Prepared { name, props, time };
+        let is_locked = self.is_locked(path);
+        let is_file = prepare_unless_locked(
+            self.alloc,
+            folder,
+            self.admin,
+            number,
+            (&what, is_locked),
+        )?;
+        Ok(if is_file { Some(new) } else { None })
     }
-    Ok(())
+
+    // Does so if some work is a file that comes.
+    fn prepare_one<F: Folder>(
+        &self,
+        folder: &mut F,
+        item: &Work,
+        number: usize,
+    ) -> Result<Option<RelPath>, DiskFault>
+        ensures { Goes (is_temporary self.now.admin.now.name) (F.past folder.old) result (F.past folder.new) }
+    {
+        match item {
+            Work::InstallFile(path) => self.prepare_file(folder, path, number),
+            Work::MakeDirectory(_) | Work::RemoveFile(_) | Work::RemoveDirectory(_) => Ok(None),
+        }
+    }
+
+    // Prepares each file anew. Returns the paths of those whose bytes are to reach the disk.
+    fn prepare_files<F: Folder>(
+        &self,
+        folder: &mut F,
+        work: &[Work],
+    ) -> Result<Vec<RelPath>, DiskFault>
+        ensures { Goes (is_temporary self.now.admin.now.name) (F.past folder.old) result (F.past folder.new) }
+    {
+        let mut number = 0usize;
+        let mut files = Vec::new(self.alloc);
+        for item in work {
+            if let Some(file) = self.prepare_one(folder, item, number)? {
+                files.push(file)?;
+            }
+            number = number.saturating_add(files_in(item));
+        }
+        Ok(files)
+    }
+
+    // Prepares each file anew, and brings their bytes to the disk if `sync` says so.
+    fn prepare_all<F: Folder>(
+        &self,
+        folder: &mut F,
+        work: &[Work],
+        sync: bool,
+    ) -> Result<(), DiskFault>
+        ensures { Goes (is_temporary self.now.admin.now.name) (F.past folder.old) result (F.past folder.new) }
+    {
+        let files = self.prepare_files(folder, work)?;
+        if !sync {
+            return Ok(());
+        }
+        sync_files(folder, &files)
+    }
+}
+
+// The work of this library that a copy has left. Foreign where it is none.
+fn task_of(alloc: Global, existing: &Existing) -> Result<Task, DiskFault>
+    ensures { IfOk result (λ task. list_all (λ item. is_outside (path_of item)) task.work.items ≡ true) }
+{
+    if !existing.numbers.is_marked() {
+        return Err(DiskFault::Foreign);
+    }
+    let Some(work) = read_work(alloc, &existing.tables.work_queue)? else {
+        return Err(DiskFault::Foreign);
+    };
+    match Task::of_queue(work) {
+        Some(task) => Ok(task),
+        None => Err(DiskFault::Foreign),
+    }
+}
+
+// Refuses what isn't the copy's where work is left.
+fn refuse_others<F: Folder>(
+    alloc: Global,
+    folder: &F,
+    again: &Again<'_>,
+    task: &Task,
+    known: &KnownTexts,
+) -> Result<(), DiskFault> {
+    let gone = task.gone(alloc)?;
+    let files = task.replacing_files(alloc)?;
+    let looking = Looking {
+        alloc,
+        existing: again.existing,
+        known,
+        gone: &gone,
+        files: &files,
+    };
+    looking.refuse_all(folder, again.admin, &task.work)
+}
+
+// The databases that follow, of the same nodes.
+fn databases_of(alloc: Global, existing: Existing, task: &Task) -> Result<Databases, DiskFault>
+    ensures { IfOk result (λ databases. AreOfNodes existing.nodes.items databases) }
+{
+    let mut images = existing.into_images();
+    Databases::after(alloc, &mut images, task)
 }
 
 // Completes the copy that is there.
@@ -228,31 +327,21 @@ fn complete<F: Folder>(
     folder: &mut F,
     existing: Existing,
     sync: bool,
-) -> Result<(), DiskFault> {
-    if !existing.numbers.is_marked() {
-        return Err(DiskFault::Foreign);
-    }
+) -> Result<(), DiskFault>
+    ensures steps { Goes (is_doing (codes ".svn") is_outside) (F.past folder.old) result (F.past folder.new) }
+    ensures crash { sync ≡ true → Runs (IsSafe (codes ".svn") existing.nodes.items) (IsWhole (codes ".svn") existing.nodes.items) (IsSafe (codes ".svn") existing.nodes.items) (F.past folder.old) result (F.past folder.new) }
+{
+    let task = task_of(alloc, &existing)?;
     let admin = Admin::of_copy(alloc)?;
-    let Some(work) = read_work(alloc, &existing.tables.work_queue)? else {
-        return Err(DiskFault::Foreign);
-    };
-    let Some(task) = Task::of_queue(work) else {
-        return Err(DiskFault::Foreign);
-    };
     let known = KnownTexts::of(alloc, &existing.tables.pristine)?;
-    let gone = task.gone(alloc)?;
-    let files = task.replacing_files(alloc)?;
-    let looking = Looking {
+    let again = Again {
         alloc,
+        admin: &admin,
         existing: &existing,
-        known: &known,
-        gone: &gone,
-        files: &files,
     };
-    looking.refuse_all(folder, &admin, &task.work)?;
-    prepare_all_again(alloc, folder, &admin, &existing, task.makings(), sync)?;
-    let mut images = existing.into_images();
-    let databases = Databases::after(alloc, &mut images, &task)?;
+    refuse_others(alloc, folder, &again, &task, &known)?;
+    again.prepare_all(folder, task.makings(), sync)?;
+    let databases = databases_of(alloc, existing, &task)?;
     let doing = Doing {
         alloc,
         admin: &admin,
@@ -263,21 +352,36 @@ fn complete<F: Folder>(
     doing.carry_on(folder, databases)
 }
 
+// Completes the copy that is there, if work is left.
+fn complete_if_busy<F: Folder>(
+    alloc: Global,
+    folder: &mut F,
+    existing: Existing,
+    sync: bool,
+) -> Result<Resumed, DiskFault>
+    ensures steps { Goes (is_doing (codes ".svn") is_outside) (F.past folder.old) result (F.past folder.new) }
+    ensures crash { sync ≡ true → Runs (IsSafe (codes ".svn") existing.nodes.items) (IsWhole (codes ".svn") existing.nodes.items) (IsSafe (codes ".svn") existing.nodes.items) (F.past folder.old) result (F.past folder.new) }
+{
+    if !existing.is_busy() {
+        return Ok(Resumed::Nothing);
+    }
+    complete(alloc, folder, existing, sync)?;
+    Ok(Resumed::Completed)
+}
+
 /// Completes a copy whose making was cut off, and returns what there was to do. Where there is no copy yet, what the checkout left is removed. With `sync`
 /// everything is brought to the disk, each time before it counts.
 ///
 /// Refused before anything is changed: NoCopy; Foreign where the work is a client's, or the database was changed since, which `svn cleanup` is for;
 /// NoText where a pristine text isn't the one that its stand-in names; InTheWay at the first path where something is that isn't the copy's. Then Folder,
-/// Rows, Path and Memory. It may be cut off, and done again.
-pub fn resume<F: Folder>(alloc: Global, folder: &mut F, sync: bool) -> Result<Resumed, DiskFault> {
+/// Rows, Path and Memory. It may be cut off, and done again: with `sync` the copy that is on the disk stays there, whenever the program or the power stops.
+pub fn resume<F: Folder>(alloc: Global, folder: &mut F, sync: bool) -> Result<Resumed, DiskFault>
+    ensures steps { Goes (is_inside (codes ".svn-new")) (F.past folder.old) result (F.past folder.new) ⊎ Goes (is_doing (codes ".svn") is_outside) (F.past folder.old) result (F.past folder.new) }
+    ensures crash { sync ≡ true → (copy : List (Path × BaseNode)) → LeavesFrom (IsKept copy) (IsThere copy) (F.past folder.old) (F.past folder.new) }
+    ensures after { sync ≡ true → (copy : List (Path × BaseNode)) → OnOk result (AfterFrom (IsKept copy) (IsThere copy) (F.past folder.old) (F.past folder.new)) }
+{
     match Existing::read(alloc, folder) {
-        Ok(existing) => {
-            if !existing.is_busy() {
-                return Ok(Resumed::Nothing);
-            }
-            complete(alloc, folder, existing, sync)?;
-            Ok(Resumed::Completed)
-        }
+        Ok(existing) => complete_if_busy(alloc, folder, existing, sync),
         Err(DiskFault::NoCopy) => {
             clear(alloc, folder, sync)?;
             Ok(Resumed::Cleared)

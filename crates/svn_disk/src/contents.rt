@@ -1,6 +1,7 @@
 //! What a checkout writes of a copy: the nodes of its database, and the work that is left once it is there.
-ghost use Rattle.std.specs.Prelude.{◌≡◌, ◌++◌, IfOk, OnOk};
+ghost use Rattle.std.specs.Prelude.{◌≡◌, ◌++◌, ◌∷◌, [], IfOk, OnOk};
 ghost use Rattle.svn_disk.specs.Plans.{present_at, present_nodes, entry_work, work_of};
+ghost use Rattle.svn_disk.specs.Crashes.{AreNodesOf};
 
 use crate::fault::DiskFault;
 use std::alloc::Global;
@@ -40,6 +41,43 @@ fn nodes_of(alloc: Global, copy: &WorkingCopy) -> Result<Vec<(RelPath, BaseNode)
         push_node(&mut nodes, path, node)?;
     }
     Ok(nodes)
+}
+
+// Adds a node.
+fn push_clone(
+    nodes: &mut Vec<(RelPath, BaseNode)>,
+    path: &RelPath,
+    node: &BaseNode,
+) -> Result<(), DiskFault>
+    ensures { OnOk result (nodes.new.items ≡ nodes.old.items ++ (path.now, node.now) ∷ []) }
+{
+    nodes.push((path.clone()?, node.clone()?))?;
+    Ok(())
+}
+
+fn clone_of(
+    alloc: Global,
+    nodes: &[(RelPath, BaseNode)],
+) -> Result<Vec<(RelPath, BaseNode)>, DiskFault>
+    ensures { IfOk result (λ list. list.items ≡ nodes.now) }
+{
+    let mut list = Vec::new(alloc);
+    for entry in nodes {
+        push_clone(&mut list, &entry.0, &entry.1)?;
+    }
+    Ok(list)
+}
+
+/// The copy that has these nodes, which may come in any order. Nodes where they are no working copy; Memory.
+pub(crate) fn copy_of(
+    alloc: Global,
+    nodes: &[(RelPath, BaseNode)],
+) -> Result<WorkingCopy, DiskFault>
+    ensures { IfOk result (λ copy. AreNodesOf copy nodes.now) }
+{
+    let list = clone_of(alloc, nodes)?;
+    let copy = WorkingCopy::from_nodes(alloc, list)?;
+    Ok(copy)
 }
 
 // Adds the work that a node is.

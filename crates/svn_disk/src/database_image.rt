@@ -1,4 +1,6 @@
 //! The databases of a copy that changes: with work left to do, and with none.
+ghost use Rattle.std.specs.Prelude.{◌≡◌, IfOk};
+ghost use Rattle.svn_wcrows.specs.Copies.{StandsFor};
 
 use crate::fault::DiskFault;
 use std::alloc::Global;
@@ -21,7 +23,10 @@ pub(crate) struct Images {
 
 impl Images {
     /// The next database, with this work to do, and a lock that keeps clients from it; with neither where there is no work.
-    pub(crate) fn next(&mut self, alloc: Global, work: &[Work]) -> Result<Vec<u8>, DiskFault> {
+    pub(crate) fn next(&mut self, alloc: Global, work: &[Work]) -> Result<Vec<u8>, DiskFault>
+        ensures image { IfOk result (λ image. StandsFor self.old.nodes.items image.items) }
+        ensures nodes { self.new.nodes.items ≡ self.old.nodes.items }
+    {
         self.change_counter = self.change_counter.wrapping_add(1);
         self.tables.work_queue = work_rows(alloc, work, self.tables.last_work)?;
         self.tables.last_work = self.tables.last_work.saturating_add(work.len() as u64);

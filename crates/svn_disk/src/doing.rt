@@ -1,6 +1,16 @@
 //! The work of a change, done: what goes is removed, and what comes is made. Each part may be done again.
+ghost use Rattle.std.specs.Prelude.{◌≡◌, List, Bool, true, codes, IfOk, MatchOption, ⊤};
+ghost use Rattle.std.specs.List.{list_all};
+ghost use Rattle.svn_types.specs.Names.{Path};
+ghost use Rattle.svn_model.specs.declared.base_node.BaseNode.{BaseNode};
+ghost use Rattle.svn_wcrows.specs.Copies.{StandsFor};
+ghost use Rattle.svn_folder.specs.Files.{is_sync};
+ghost use Rattle.svn_disk.specs.Goes.{Goes};
+ghost use Rattle.svn_disk.specs.Places.{is_inside, is_outside, is_changing, is_doing};
+ghost use Rattle.svn_disk.specs.Plans.{path_of};
+ghost use Rattle.svn_disk.specs.Crashes.{IsSafe, IsWhole, AreOfNodes, Runs};
 
-use crate::carry::replace_database;
+use crate::carry::{files_in, parents, replace_database};
 use crate::database_image::Images;
 use crate::fault::DiskFault;
 use crate::known::KnownTexts;
@@ -33,18 +43,33 @@ pub(crate) struct Databases {
     pub(crate) end: Vec<u8>,
 }
 
+// The database between, if something comes where something else goes.
+fn middle_after(
+    alloc: Global,
+    images: &mut Images,
+    task: &Task,
+) -> Result<Option<Vec<u8>>, DiskFault>
+    ensures image { IfOk result (λ middle. MatchOption middle ⊤ (λ image. StandsFor images.old.nodes.items image.items)) }
+    ensures nodes { images.new.nodes.items ≡ images.old.nodes.items }
+{
+    if task.changes_kind(alloc)? {
+        Ok(Some(images.next(alloc, task.makings())?))
+    } else {
+        Ok(None)
+    }
+}
+
 impl Databases {
     /// Those that follow the one with all of the work.
     pub(crate) fn after(
         alloc: Global,
         images: &mut Images,
         task: &Task,
-    ) -> Result<Databases, DiskFault> {
-        let middle = if task.changes_kind(alloc)? {
-            Some(images.next(alloc, task.makings())?)
-        } else {
-            None
-        };
+    ) -> Result<Databases, DiskFault>
+        ensures images { IfOk result (λ databases. AreOfNodes images.old.nodes.items databases) }
+        ensures nodes { images.new.nodes.items ≡ images.old.nodes.items }
+    {
+        let middle = middle_after(alloc, images, task)?;
         let end = images.next(alloc, &[])?;
         Ok(Databases { middle, end })
     }
@@ -59,9 +84,23 @@ fn is_empty<F: Folder>(alloc: Global, folder: &F, path: &RelPath) -> Result<bool
     }
 }
 
+// Whether a directory is at a path, with nothing in it.
+fn is_empty_directory<F: Folder>(
+    alloc: Global,
+    folder: &F,
+    path: &RelPath,
+) -> Result<bool, DiskFault> {
+    match find(alloc, folder, path)? {
+        Found::Directory => is_empty(alloc, folder, path),
+        Found::Nothing | Found::Leaf(_) => Ok(false),
+    }
+}
+
 impl Doing<'_> {
     // Removes a file or a link that is the copy's, if one is there.
-    fn remove_file<F: Folder>(&self, folder: &mut F, path: &RelPath) -> Result<(), DiskFault> {
+    fn remove_file<F: Folder>(&self, folder: &mut F, path: &RelPath) -> Result<(), DiskFault>
+        ensures { (free : Path → Bool) → free path.now ≡ true → Goes (is_changing self.now.admin.now.name free) (F.past folder.old) result (F.past folder.new) }
+    {
         if self.known.is_own_leaf(self.alloc, folder, path)? {
             return take(folder, Step::RemoveFile(path.clone()?));
         }
@@ -69,33 +108,53 @@ impl Doing<'_> {
     }
 
     // Removes a directory, if one is there. With something in it that isn't the copy's it stays.
-    fn remove_directory<F: Folder>(&self, folder: &mut F, path: &RelPath) -> Result<(), DiskFault> {
-        match find(self.alloc, folder, path)? {
-            Found::Directory if is_empty(self.alloc, folder, path)? => {
-                take(folder, Step::RemoveDirectory(path.clone()?))
-            }
-            _ => Ok(()),
+    fn remove_directory<F: Folder>(&self, folder: &mut F, path: &RelPath) -> Result<(), DiskFault>
+        ensures { (free : Path → Bool) → free path.now ≡ true → Goes (is_changing self.now.admin.now.name free) (F.past folder.old) result (F.past folder.new) }
+    {
+        if is_empty_directory(self.alloc, folder, path)? {
+            return take(folder, Step::RemoveDirectory(path.clone()?));
+        }
+        Ok(())
+    }
+
+    // Removes what goes, if it is something that does.
+    fn remove_one<F: Folder>(&self, folder: &mut F, item: &Work) -> Result<(), DiskFault>
+        ensures { (free : Path → Bool) → free (path_of item.now) ≡ true → Goes (is_changing self.now.admin.now.name free) (F.past folder.old) result (F.past folder.new) }
+    {
+        match item {
+            Work::RemoveFile(path) => self.remove_file(folder, path),
+            Work::RemoveDirectory(path) => self.remove_directory(folder, path),
+            Work::MakeDirectory(_) | Work::InstallFile(_) => Ok(()),
         }
     }
 
     // Removes all that goes.
-    fn remove_all<F: Folder>(&self, folder: &mut F) -> Result<(), DiskFault> {
-        for item in self.task.removals() {
-            match item {
-                Work::RemoveFile(path) => self.remove_file(folder, path)?,
-                Work::RemoveDirectory(path) => self.remove_directory(folder, path)?,
-                Work::MakeDirectory(_) | Work::InstallFile(_) => {}
-            }
+    fn remove_all<F: Folder>(&self, folder: &mut F) -> Result<(), DiskFault>
+        ensures { (free : Path → Bool) → list_all (λ item. free (path_of item)) self.now.task.now.work.items ≡ true → Goes (is_changing self.now.admin.now.name free) (F.past folder.old) result (F.past folder.new) }
+    {
+        let removals = self.task.removals();
+        for item in removals {
+            self.remove_one(folder, item)?;
         }
-        self.sync_above(folder, self.task.removals())
+        self.sync_above(folder, removals)
+    }
+
+    // Makes a directory that comes.
+    fn make_one<F: Folder>(&self, folder: &mut F, item: &Work) -> Result<(), DiskFault>
+        ensures { (free : Path → Bool) → free (path_of item.now) ≡ true → Goes (is_changing self.now.admin.now.name free) (F.past folder.old) result (F.past folder.new) }
+    {
+        match item {
+            Work::MakeDirectory(path) => make_directory_if_none(self.alloc, folder, path),
+            Work::InstallFile(_) | Work::RemoveFile(_) | Work::RemoveDirectory(_) => Ok(()),
+        }
     }
 
     // Makes all directories that come.
-    fn make_directories<F: Folder>(&self, folder: &mut F) -> Result<(), DiskFault> {
-        for item in self.task.makings() {
-            if let Work::MakeDirectory(path) = item {
-                make_directory_if_none(self.alloc, folder, path)?;
-            }
+    fn make_directories<F: Folder>(&self, folder: &mut F, work: &[Work]) -> Result<(), DiskFault>
+        ensures { (free : Path → Bool) → list_all (λ item. free (path_of item)) work.now ≡ true → Goes (is_changing self.now.admin.now.name free) (F.past folder.old) result (F.past folder.new) }
+    {
+        for item in work {
+            self.make_one(folder, item)?;
         }
         Ok(())
     }
@@ -106,36 +165,59 @@ impl Doing<'_> {
         folder: &mut F,
         path: &RelPath,
         number: usize,
-    ) -> Result<(), DiskFault> {
+    ) -> Result<(), DiskFault>
+        ensures { (free : Path → Bool) → free path.now ≡ true → Goes (is_changing self.now.admin.now.name free) (F.past folder.old) result (F.past folder.new) }
+    {
         self.known.is_own_leaf(self.alloc, folder, path)?;
         rename(folder, &self.admin.new_file(self.alloc, number)?, path)
     }
 
+    // Gives a file that comes its place.
+    fn place_one<F: Folder>(
+        &self,
+        folder: &mut F,
+        item: &Work,
+        number: usize,
+    ) -> Result<(), DiskFault>
+        ensures { (free : Path → Bool) → free (path_of item.now) ≡ true → Goes (is_changing self.now.admin.now.name free) (F.past folder.old) result (F.past folder.new) }
+    {
+        match item {
+            Work::InstallFile(path) => self.place(folder, path, number),
+            Work::MakeDirectory(_) | Work::RemoveFile(_) | Work::RemoveDirectory(_) => Ok(()),
+        }
+    }
+
     // Gives all files that come their places, of which each has the next name of its own.
-    fn place_files<F: Folder>(&self, folder: &mut F) -> Result<(), DiskFault> {
+    fn place_files<F: Folder>(&self, folder: &mut F, work: &[Work]) -> Result<(), DiskFault>
+        ensures { (free : Path → Bool) → list_all (λ item. free (path_of item)) work.now ≡ true → Goes (is_changing self.now.admin.now.name free) (F.past folder.old) result (F.past folder.new) }
+    {
         let mut number = 0usize;
-        for item in self.task.makings() {
-            if let Work::InstallFile(path) = item {
-                self.place(folder, path, number)?;
-                number = number.saturating_add(1);
-            }
+        for item in work {
+            self.place_one(folder, item, number)?;
+            number = number.saturating_add(files_in(item));
         }
         Ok(())
     }
 
+    // Makes all that comes.
+    fn make_all<F: Folder>(&self, folder: &mut F) -> Result<(), DiskFault>
+        ensures { (free : Path → Bool) → list_all (λ item. free (path_of item)) self.now.task.now.work.items ≡ true → Goes (is_changing self.now.admin.now.name free) (F.past folder.old) result (F.past folder.new) }
+    {
+        let makings = self.task.makings();
+        self.make_directories(folder, makings)?;
+        self.place_files(folder, makings)?;
+        self.sync_above(folder, makings)
+    }
+
     // Brings the names in the directories of these paths to the disk, those above first, also where they are as they were: an earlier run that was cut off
     // may have changed them.
-    fn sync_above<F: Folder>(&self, folder: &mut F, work: &[Work]) -> Result<(), DiskFault> {
-        let mut above = BTreeSet::new(self.alloc);
+    fn sync_above<F: Folder>(&self, folder: &mut F, work: &[Work]) -> Result<(), DiskFault>
+        ensures { Goes is_sync (F.past folder.old) result (F.past folder.new) }
+    {
         if !self.sync {
             return Ok(());
         }
-        for item in work {
-            if let Some(directory) = item.path().parent(self.alloc)? {
-                above.insert(directory)?;
-            }
-        }
-        self.sync_all(folder, &above)
+        self.sync_all(folder, &parents(self.alloc, work)?)
     }
 
     // Brings the names in these directories to the disk, of those that are there.
@@ -143,13 +225,48 @@ impl Doing<'_> {
         &self,
         folder: &mut F,
         directories: &BTreeSet<RelPath>,
-    ) -> Result<(), DiskFault> {
+    ) -> Result<(), DiskFault>
+        ensures { Goes is_sync (F.past folder.old) result (F.past folder.new) }
+    {
         for directory in directories {
-            if let Some(Entry::Directory) = folder.look(self.alloc, directory)? {
-                take(folder, Step::SyncDirectory(directory.clone()?))?;
-            }
+            self.sync_one(folder, directory)?;
         }
         Ok(())
+    }
+
+    // Brings the names in a directory to the disk, if it is there.
+    fn sync_one<F: Folder>(&self, folder: &mut F, directory: &RelPath) -> Result<(), DiskFault>
+        ensures { Goes is_sync (F.past folder.old) result (F.past folder.new) }
+    {
+        match folder.look(self.alloc, directory)? {
+            Some(Entry::Directory) => take(folder, Step::SyncDirectory(directory.clone()?)),
+            _ => Ok(()),
+        }
+    }
+
+    // Puts another database of the copy in place of the one that is there.
+    fn replace<F: Folder>(&self, folder: &mut F, image: Vec<u8>) -> Result<(), DiskFault>
+        requires { self.now.admin.now.name ≡ codes ".svn" }
+        ensures steps { Goes (is_inside (codes ".svn")) (F.past folder.old) result (F.past folder.new) }
+        ensures crash { self.now.sync ≡ true → (nodes : List (Path × BaseNode)) → StandsFor nodes image.items → Runs (IsSafe (codes ".svn") nodes) (IsWhole (codes ".svn") nodes) (IsSafe (codes ".svn") nodes) (F.past folder.old) result (F.past folder.new) }
+    {
+        replace_database(self.alloc, folder, self.admin, image, self.sync)
+    }
+
+    // The same, if there is one.
+    fn replace_if_any<F: Folder>(
+        &self,
+        folder: &mut F,
+        image: Option<Vec<u8>>,
+    ) -> Result<(), DiskFault>
+        requires { self.now.admin.now.name ≡ codes ".svn" }
+        ensures steps { Goes (is_inside (codes ".svn")) (F.past folder.old) result (F.past folder.new) }
+        ensures crash { self.now.sync ≡ true → (nodes : List (Path × BaseNode)) → MatchOption image ⊤ (λ image. StandsFor nodes image.items) → Runs (IsSafe (codes ".svn") nodes) (IsWhole (codes ".svn") nodes) (IsSafe (codes ".svn") nodes) (F.past folder.old) result (F.past folder.new) }
+    {
+        match image {
+            Some(image) => self.replace(folder, image),
+            None => Ok(()),
+        }
     }
 
     /// Does the work of a copy whose database has it as its queue, and whose files that come have names of their own. Changed where a file was edited since
@@ -158,15 +275,16 @@ impl Doing<'_> {
         &self,
         folder: &mut F,
         databases: Databases,
-    ) -> Result<(), DiskFault> {
+    ) -> Result<(), DiskFault>
+        requires name { self.now.admin.now.name ≡ codes ".svn" }
+        requires outside { list_all (λ item. is_outside (path_of item)) self.now.task.now.work.items ≡ true }
+        ensures steps { (free : Path → Bool) → list_all (λ item. free (path_of item)) self.now.task.now.work.items ≡ true → Goes (is_doing (codes ".svn") free) (F.past folder.old) result (F.past folder.new) }
+        ensures crash { self.now.sync ≡ true → (nodes : List (Path × BaseNode)) → AreOfNodes nodes databases → Runs (IsSafe (codes ".svn") nodes) (IsWhole (codes ".svn") nodes) (IsSafe (codes ".svn") nodes) (F.past folder.old) result (F.past folder.new) }
+    {
         let Databases { middle, end } = databases;
         self.remove_all(folder)?;
-        if let Some(middle) = middle {
-            replace_database(self.alloc, folder, self.admin, middle, self.sync)?;
-        }
-        self.make_directories(folder)?;
-        self.place_files(folder)?;
-        self.sync_above(folder, self.task.makings())?;
-        replace_database(self.alloc, folder, self.admin, end, self.sync)
+        self.replace_if_any(folder, middle)?;
+        self.make_all(folder)?;
+        self.replace(folder, end)
     }
 }

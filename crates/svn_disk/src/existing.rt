@@ -1,5 +1,12 @@
 //! A working copy that is on disk: its tables and its base tree.
+ghost use Rattle.std.specs.Prelude.{◌≡◌, codes, IfOk};
+ghost use Rattle.svn_wcrows.specs.Copies.{StandsFor};
+ghost use Rattle.svn_folder.specs.States.{seen};
+ghost use Rattle.svn_disk.specs.Goes.{IsAlways};
+ghost use Rattle.svn_disk.specs.Places.{database_place};
+ghost use Rattle.svn_disk.specs.Crashes.{AreNodesOf, IsDatabaseOf};
 
+use crate::contents::copy_of;
 use crate::database_image::Images;
 use crate::fault::{DiskFault, OtherRepository};
 use crate::layout::Admin;
@@ -106,12 +113,15 @@ fn owner_of(tables: &Tables) -> Result<Owner, DiskFault> {
     }
 }
 
-/// Refuses a database with a journal, of a transaction that was begun and hasn't ended.
-pub(crate) fn refuse_journal<F: Folder>(
+/// Refuses a database that a program is about to change, or was: InUse where it is locked for that, Journal where a transaction was begun and hasn't ended.
+pub(crate) fn refuse_writer<F: Folder>(
     alloc: Global,
     folder: &F,
     admin: &Admin,
 ) -> Result<(), DiskFault> {
+    if folder.is_locked(&admin.database(alloc)?)? {
+        return Err(DiskFault::InUse);
+    }
     let journal = admin.journal(alloc)?;
     let Some(bytes) = bytes_at(alloc, folder, &journal)? else {
         return Ok(());
@@ -124,21 +134,34 @@ pub(crate) fn refuse_journal<F: Folder>(
 }
 
 impl Existing {
-    /// Reads the copy that a folder has. NoCopy where it has none; Journal; Database and Rows where it can't be read.
-    pub fn read<F: Folder>(alloc: Global, folder: &F) -> Result<Existing, DiskFault> {
-        let admin = Admin::of_copy(alloc)?;
-        let path = admin.database(alloc)?;
-        let Some(database) = bytes_at(alloc, folder, &path)? else {
-            return Err(DiskFault::NoCopy);
-        };
-        refuse_journal(alloc, folder, &admin)?;
-        let BaseTree { origin, nodes, .. } = read_base_tree(alloc, database.as_slice())?;
+    // The copy that the bytes of a database stand for.
+    fn of_bytes(alloc: Global, database: Text) -> Result<Existing, DiskFault>
+        ensures nodes { IfOk result (λ existing. AreNodesOf existing.copy existing.nodes.items) }
+        ensures stands { IfOk result (λ existing. StandsFor existing.nodes.items database) }
+    {
+        let tree = read_base_tree(alloc, database.as_slice())?;
+        let copy = copy_of(alloc, &tree.nodes)?;
+        let existing = Existing::of_parts(alloc, database, tree, copy)?;
+        Ok(existing)
+    }
+
+    // The same, whose tree is known.
+    fn of_parts(
+        alloc: Global,
+        database: Text,
+        tree: BaseTree,
+        copy: WorkingCopy,
+    ) -> Result<Existing, DiskFault>
+        ensures copy { IfOk result (λ existing. existing.copy ≡ copy) }
+        ensures nodes { IfOk result (λ existing. existing.nodes.items ≡ tree.nodes.items) }
+    {
         let tables = read_tables(alloc, database.as_slice())?;
+        let BaseTree { origin, nodes, .. } = tree;
         Ok(Existing {
             numbers: numbers_of(database.as_slice()),
             owner: owner_of(&tables)?,
             origin,
-            copy: WorkingCopy::from_nodes(alloc, nodes.clone()?)?,
+            copy,
             nodes,
             places: places_of(alloc, &tables.nodes)?,
             locked: locked_in(alloc, &tables.lock)?,
@@ -147,8 +170,24 @@ impl Existing {
         })
     }
 
+    /// Reads the copy that a folder has. NoCopy where it has none; InUse and Journal where a client is about to change it; Database and Rows where it can't be read.
+    pub fn read<F: Folder>(alloc: Global, folder: &F) -> Result<Existing, DiskFault>
+        ensures nodes { IfOk result (λ existing. AreNodesOf existing.copy existing.nodes.items) }
+        ensures database { IfOk result (λ existing. IsAlways (λ s. IsDatabaseOf existing.nodes.items (seen s (database_place (codes ".svn")))) (F.past folder.now)) }
+    {
+        let admin = Admin::of_copy(alloc)?;
+        let path = admin.database(alloc)?;
+        let Some(database) = bytes_at(alloc, folder, &path)? else {
+            return Err(DiskFault::NoCopy);
+        };
+        refuse_writer(alloc, folder, &admin)?;
+        Existing::of_bytes(alloc, database)
+    }
+
     /// Its base tree, files by the stand-ins of their texts.
-    pub fn copy(&self) -> &WorkingCopy {
+    pub fn copy(&self) -> &WorkingCopy
+        ensures { result.now ≡ self.now.copy }
+    {
         &self.copy
     }
 
@@ -194,7 +233,7 @@ impl Existing {
         if bytes != self.database {
             return Err(DiskFault::InUse);
         }
-        match refuse_journal(alloc, folder, &admin) {
+        match refuse_writer(alloc, folder, &admin) {
             Err(DiskFault::Journal) => Err(DiskFault::InUse),
             other => other,
         }
@@ -206,7 +245,9 @@ impl Existing {
     }
 
     /// The databases that follow the one that is there.
-    pub(crate) fn into_images(self) -> Images {
+    pub(crate) fn into_images(self) -> Images
+        ensures { result.nodes.items ≡ self.nodes.items }
+    {
         let Existing {
             tables,
             nodes,

@@ -59,6 +59,9 @@ pub enum DiskFault {
     /// A node has the name of the administrative folder. Nothing was changed.
     #[error("{0}: no node of a working copy may have the name .svn")]
     Reserved(RelPath),
+    /// The work of a change is at a path that neither copy has. Nothing was changed. This is a fault of this crate.
+    #[error("{0}: the change isn't one of this copy")]
+    Elsewhere(RelPath),
     /// The copy is locked, or has work left that isn't this library's, or that a client has changed since. Nothing was changed.
     #[error("locked, or with unfinished work of a client: run `svn cleanup`")]
     Foreign,

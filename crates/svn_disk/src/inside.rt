@@ -2,7 +2,8 @@
 ghost use Rattle.std.specs.Prelude.{◌≡◌, ◌∷◌, [], true};
 ghost use Rattle.svn_types.specs.Paths.{is_within};
 ghost use Rattle.svn_disk.specs.Goes.{Goes};
-ghost use Rattle.svn_disk.specs.Places.{is_inside};
+ghost use Rattle.svn_disk.specs.Places.{is_inside, is_temporary, temporary_place};
+ghost use Rattle.svn_disk.specs.Crashes.{IsAdding};
 
 use crate::fault::DiskFault;
 use crate::layout::Admin;
@@ -34,12 +35,12 @@ impl Admin {
         path: &RelPath,
     ) -> Result<(), DiskFault>
         requires { is_within (self.now.name ∷ []) path.now ≡ true }
-        ensures { Goes (is_inside self.now.name) (F.past folder.old) result (F.past folder.new) }
+        ensures { IsAdding self.now.name (F.past folder.old) result (F.past folder.new) }
     {
         steps::make_directory_if_none(alloc, folder, path)
     }
 
-    /// Makes a file of the text that a source has begun.
+    /// Makes a file of the text that a source has begun, in the folder of what has no name yet.
     pub(crate) fn make_text<F: Folder, S: Source>(
         &self,
         alloc: Global,
@@ -48,13 +49,13 @@ impl Admin {
         mode: Mode,
         source: &mut S,
     ) -> Result<(), DiskFault>
-        requires { is_within (self.now.name ∷ []) path.now ≡ true }
-        ensures { Goes (is_inside self.now.name) (F.past folder.old) result (F.past folder.new) }
+        requires { is_within (temporary_place self.now.name) path.now ≡ true }
+        ensures { Goes (is_temporary self.now.name) (F.past folder.old) result (F.past folder.new) }
     {
         Ok(folder.make_file(alloc, path, mode, None, source)?)
     }
 
-    /// Makes a file with the bytes of another one.
+    /// Makes a file with the bytes of another one, in the folder of what has no name yet.
     pub(crate) fn copy_file<F: Folder>(
         &self,
         alloc: Global,
@@ -64,36 +65,9 @@ impl Admin {
         mode: Mode,
         modified: Option<u64>,
     ) -> Result<(), DiskFault>
-        requires { is_within (self.now.name ∷ []) to.now ≡ true }
-        ensures { Goes (is_inside self.now.name) (F.past folder.old) result (F.past folder.new) }
+        requires { is_within (temporary_place self.now.name) to.now ≡ true }
+        ensures { Goes (is_temporary self.now.name) (F.past folder.old) result (F.past folder.new) }
     {
         Ok(folder.copy_file(alloc, from, to, mode, modified)?)
-    }
-
-    /// Gives a file another path.
-    pub(crate) fn rename<F: Folder>(
-        &self,
-        folder: &mut F,
-        from: &RelPath,
-        to: &RelPath,
-    ) -> Result<(), DiskFault>
-        requires from { is_within (self.now.name ∷ []) from.now ≡ true }
-        requires to { is_within (self.now.name ∷ []) to.now ≡ true }
-        ensures { Goes (is_inside self.now.name) (F.past folder.old) result (F.past folder.new) }
-    {
-        steps::rename(folder, from, to)
-    }
-
-    /// Removes a file or a link, if one is there.
-    pub(crate) fn remove_if_any<F: Folder>(
-        &self,
-        alloc: Global,
-        folder: &mut F,
-        path: &RelPath,
-    ) -> Result<(), DiskFault>
-        requires { is_within (self.now.name ∷ []) path.now ≡ true }
-        ensures { Goes (is_inside self.now.name) (F.past folder.old) result (F.past folder.new) }
-    {
-        steps::remove_if_any(alloc, folder, path)
     }
 }

@@ -1,5 +1,5 @@
-//! What a checkout rests on, as the contracts of functions with nothing in them.
-ghost use Rattle.svn_disk.specs.Laws.{a_directory_is_renamed_at_once, a_checkout_changes_nothing_else};
+//! What a checkout and a change rest on, as the contracts of functions with nothing in them.
+ghost use Rattle.svn_disk.specs.Laws.{a_directory_is_renamed_at_once, a_checkout_changes_nothing_else, a_change_changes_nothing_else};
 
 /// Once all of a folder is on the disk a directory in it gets another name at once: a crash leaves nothing at that name, or all that was at the old one.
 pub fn a_directory_is_renamed_at_once()
@@ -9,4 +9,10 @@ pub fn a_directory_is_renamed_at_once()
 /// The steps of a checkout leave what is shown at a path that isn't in its folders, nor that of a node of the copy or below one.
 pub fn a_checkout_changes_nothing_else()
     ensures { a_checkout_changes_nothing_else }
+{}
+
+/// The steps that bring a copy to another one leave what is shown at a path that isn't in the administrative folder, nor that of a node of either or below
+/// one.
+pub fn a_change_changes_nothing_else()
+    ensures { a_change_changes_nothing_else }
 {}

@@ -1,7 +1,8 @@
 //! Where a working copy keeps what it knows: the names below `.svn`.
-ghost use Rattle.std.specs.Prelude.{◌≡◌, ◌∷◌, ◌++◌, [], IfOk, codes};
+ghost use Rattle.std.specs.Prelude.{◌≡◌, ◌∷◌, ◌++◌, [], true, IfOk, OnOk, codes};
 ghost use Rattle.svn_types.specs.Names.{path_of_text};
-ghost use Rattle.svn_disk.specs.Places.{text_place, database_place, new_database_place, temporary_place, is_reserved, IsTemporary};
+ghost use Rattle.svn_digits.specs.StandIns.{is_stand_in};
+ghost use Rattle.svn_disk.specs.Places.{text_place, database_place, new_database_place, temporary_place, is_reserved, is_outside, IsTemporary};
 
 use crate::fault::DiskFault;
 use std::alloc::Global;
@@ -26,6 +27,16 @@ pub(crate) fn is_reserved(path: &RelPath) -> bool
     ensures { result ≡ is_reserved path.now }
 {
     path.components().iter().any(|name| name.as_str() == NAME)
+}
+
+/// Whether a path isn't in the administrative folder, nor that of the copy itself.
+pub(crate) fn is_outside(path: &RelPath) -> bool
+    ensures { result ≡ is_outside path.now }
+{
+    match path.components().first() {
+        Some(name) => name.as_str() != NAME,
+        None => false,
+    }
 }
 
 impl Admin {
@@ -99,7 +110,8 @@ impl Admin {
 
     /// The pristine text that a stand-in names.
     pub(crate) fn text(&self, alloc: Global, stand_in: &[u8]) -> Result<RelPath, DiskFault>
-        ensures { IfOk result (λ p. p ≡ text_place self.now.name stand_in.now) }
+        ensures place { IfOk result (λ p. p ≡ text_place self.now.name stand_in.now) }
+        ensures stands { OnOk result (is_stand_in stand_in.now ≡ true) }
     {
         let Some(below) = pristine_path(alloc, stand_in)? else {
             return Err(DiskFault::NoStandIn);

@@ -29,22 +29,32 @@
 //! | `checkout` | a new copy |
 //! | `existing`, `clearing`, `completion` | one that is on disk; what was cut off before there was one; what was cut off, completed |
 //! | `above`, `plan`, `wanted` | the directories above a path; what becomes of each path between two copies; what a copy is brought to |
-//! | `on_disk`, `local`, `refusals` | what is on disk; local changes in the way; all that is in the way |
+//! | `on_disk`, `missing`, `local`, `refusals` | what is on disk; what isn't any more; local changes in the way; all that is in the way |
 //! | `task`, `known`, `doing`, `database_image` | the work that is left; the texts by which a file is nobody's edit; the work, done; the databases that follow |
-//! | `rows`, `temporary`, `bringing` | rows of a changed copy; what an earlier run left; a copy on disk, brought to another state |
+//! | `rows`, `temporary`, `preparing`, `bringing` | rows of a changed copy; what an earlier run left; the new state, prepared; a copy on disk, brought to it |
 //! | `truth`, `mending` | what of a copy is untrue, put right; the same on disk |
 //! | `laws` | what the crash theorem rests on, of a rename |
 //!
 //! Definitions, in the order of reading: `specs/Goes.antt` (which steps a call takes), `Places.antt` (where they are), `Plans.antt` (what is written of a
-//! copy), `Crashes.antt` (what a crash during a checkout leaves), `Laws.antt`.
+//! copy), `Crashes.antt` (what a crash leaves during a checkout, a change and a completion), `Laws.antt`.
 //!
 //! Promises: every function is safe and returns. Each step of [`check_out`] is inside of `.svn-new` or `.svn`, is the rename of the one to the other, or
 //! makes or places a node of the copy (`is_of_copy`), so that nothing else is changed (`a_checkout_changes_nothing_else`). With `sync`, in a folder that is
 //! all on the disk and has no copy, a crash at any moment of it leaves no copy, or the whole one (`Leaves`, `IsNoneOrWhole`), and once it has returned Ok
 //! the whole one (`LeavesAfter`): at `.svn/wc.db` a file whose bytes stand for a copy with just these nodes, and of each file the pristine text, by its
-//! checksum (`IsWhole`). A crash is one of `svn_folder`, so this is said of folders whose steps are known; of a folder of the system no contract speaks.
-//! Not proved, and tested by `test_disk` at each step: that the files of the copy are at their places in the end, and what [`resume`] and [`mend`] do. The
-//! copy that [`mended`] returns is true of the repository (`IsTrueOf`).
+//! checksum (`IsWhole`).
+//!
+//! Each step of [`bring`] is inside of `.svn`, or makes a directory, places what had no name yet, or removes a file or a directory, at the path of a node of
+//! the old copy or of the new one (`is_of_change`), so that nothing else is changed (`a_change_changes_nothing_else`). With `sync`, where the old copy is on
+//! the disk with each of its texts (`IsKept`), a crash at any moment of it leaves the old copy or the new one, with each of its texts (`IsOldOrNew`,
+//! `IsThere`), and once it has returned Ok the new one. [`mend`] promises the same: its steps are those of a change from the copy that is there to one
+//! that is true of the repository (`IsMending`), and a crash leaves the copy that was there or one that is true (`IsThereOrTrue`). A step of [`resume`] is
+//! inside of `.svn-new`, or it is inside of `.svn`, or makes, places or removes something outside of it; with `sync` a copy that is on the disk stays
+//! there. The copy that [`mended`] returns is true of the repository (`IsTrueOf`).
+//!
+//! A crash is one of `svn_folder`, so this is said of folders whose steps are known; of a folder of the system no contract speaks. Not proved, and tested by
+//! `test_disk` at each step: that the files of the copy are at their places in the end, that a file that was edited is never replaced, and that the work
+//! which a crash leaves is all that is left to do.
 #![tactic(auto)]
 
 mod above;
@@ -65,11 +75,13 @@ mod laws;
 mod layout;
 mod local;
 mod mending;
+mod missing;
 mod node_file;
 mod normal;
 mod on_disk;
 mod plan;
 mod prepared;
+mod preparing;
 mod read_back;
 mod refusals;
 mod rows;
@@ -88,8 +100,11 @@ pub use completion::{Resumed, resume};
 pub use existing::Existing;
 pub use fault::{DiskFault, OtherRepository};
 pub use inherited::inherited_props;
-pub use laws::{a_checkout_changes_nothing_else, a_directory_is_renamed_at_once};
+pub use laws::{
+    a_change_changes_nothing_else, a_checkout_changes_nothing_else, a_directory_is_renamed_at_once,
+};
 pub use mending::{Remedy, mend, mend_changes};
+pub use missing::missing_nodes;
 pub use plan::{Change, PathChange};
 pub use source::{Source, TextSums};
 pub use truth::mended;

@@ -13,20 +13,22 @@ use svn_wcrows::{Tables, is_null};
 /// The column of ACTUAL_NODE that has a conflict.
 const CONFLICT: usize = 11;
 
-// Where a plan changes something.
+// Where a plan touches something. A node of which only the revision or the repository path changes isn't touched.
 #[derive(Drop)]
 struct Reach<'a> {
     alloc: Global,
     plan: &'a Plan<'a>,
-    // The directories above what changes, without the root.
+    // The directories above what is touched, without the root.
     above: BTreeSet<RelPath>,
 }
 
 impl<'a> Reach<'a> {
     fn of(alloc: Global, plan: &'a Plan<'a>) -> Result<Reach<'a>, DiskFault> {
         let mut above = BTreeSet::new(alloc);
-        for path in plan.changes.keys() {
-            note_above(alloc, &mut above, path)?;
+        for (path, change) in &plan.changes {
+            if change.touches() {
+                note_above(alloc, &mut above, path)?;
+            }
         }
         Ok(Reach { alloc, plan, above })
     }
@@ -41,9 +43,9 @@ impl<'a> Reach<'a> {
         Ok(false)
     }
 
-    // Refuses a local change at a path that changes, or below one that goes; and above one that changes, if it counts for all below.
+    // Refuses a local change at a path that is touched, or below one that goes; and above one that is touched, if it counts for all below.
     fn refuse(&self, path: &RelPath, counts_below: bool) -> Result<(), DiskFault> {
-        let is_near = self.plan.changes.contains_key(path)
+        let is_near = self.plan.touches(path)
             || (counts_below && self.above.contains(path))
             || self.goes(path)?;
         if is_near {
@@ -79,8 +81,9 @@ impl<'a> Reach<'a> {
     }
 }
 
-/// Refuses the first local change that is in the way: at a path that changes, or below one that goes; above one that changes if it is a change of the
-/// tree or a conflict. Local, Memory.
+/// Refuses the first local change that is in the way: at a node whose text, kind or properties change, or that comes or goes; below one that goes; above
+/// any of these if it is a change of the tree or a conflict. A node of which only the revision, the repository path or the completeness changes is in
+/// nobody's way, nor is a directory that only its entries change of: what is local there stays as it is. Local, Memory.
 pub(crate) fn refuse_local(
     alloc: Global,
     tables: &Tables,

@@ -1,7 +1,12 @@
 //! A working copy that is on disk, put right where it isn't true.
+ghost use Rattle.std.specs.Prelude.{◌≡◌, ◌⊎◌, List, true, IfOk, OnOk};
+ghost use Rattle.svn_types.specs.Names.{Path};
+ghost use Rattle.svn_model.specs.declared.base_node.BaseNode.{BaseNode};
+ghost use Rattle.svn_model.specs.Nodes.{get_in, IsTrueOf};
+ghost use Rattle.svn_disk.specs.Goes.{IsAlways};
+ghost use Rattle.svn_disk.specs.Crashes.{HasDatabase, IsThere, IsTrueThere, IsThereOrTrue, IsKept, IsMending, LeavesFrom, AfterFrom};
 
 use crate::bringing::{bring, changes};
-use crate::checkout::refuse_reserved;
 use crate::existing::Existing;
 use crate::fault::DiskFault;
 use crate::plan::PathChange;
@@ -30,12 +35,14 @@ fn begin<F: Folder>(
     alloc: Global,
     folder: &F,
     what: &Remedy<'_>,
-) -> Result<(Existing, Wanted), DiskFault> {
+) -> Result<(Existing, Wanted), DiskFault>
+    ensures was { IfOk result (λ pair. IsAlways (HasDatabase pair.0.copy) (F.past folder.now)) }
+    ensures is_true { IfOk result (λ pair. IsTrueOf what.now.repo.now (get_in pair.1.copy)) }
+{
     let existing = Existing::read(alloc, folder)?;
     existing.refuse_busy()?;
     existing.refuse_other(alloc, what.uuid)?;
     let copy = mended(alloc, what.repo, &existing.copy)?;
-    refuse_reserved(&copy)?;
     let wanted = Wanted::new(alloc, what.repo, &existing.copy, copy, what.time)?;
     Ok((existing, wanted))
 }
@@ -63,7 +70,11 @@ pub fn mend<F: Folder, S: Source>(
     folder: &mut SyncedFolder<F>,
     source: &mut S,
     what: &Remedy<'_>,
-) -> Result<Vec<PathChange>, DiskFault> {
+) -> Result<Vec<PathChange>, DiskFault>
+    ensures steps { IsMending what.now.repo.now (F.past folder.old.folder) result (F.past folder.new.folder) }
+    ensures crash { what.now.sync ≡ true → (copy : List (Path × BaseNode)) → LeavesFrom (IsKept copy) (IsThereOrTrue copy what.now.repo.now) (F.past folder.old.folder) (F.past folder.new.folder) }
+    ensures after { what.now.sync ≡ true → (copy : List (Path × BaseNode)) → OnOk result (AfterFrom (IsKept copy) (IsTrueThere what.now.repo.now) (F.past folder.old.folder) (F.past folder.new.folder)) }
+{
     let (existing, wanted) = begin(alloc, folder, what)?;
     bring(alloc, folder, source, &existing, &wanted, what.sync)
 }

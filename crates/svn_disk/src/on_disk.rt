@@ -1,4 +1,8 @@
 //! What is on disk, compared with a copy.
+ghost use Rattle.std.specs.Prelude.{IfOk, MatchOption, ⊤};
+ghost use Rattle.svn_folder.specs.States.{seen};
+ghost use Rattle.svn_disk.specs.Goes.{IsAlways};
+ghost use Rattle.svn_disk.specs.Crashes.{HasBytes};
 
 use crate::fault::DiskFault;
 use crate::node_file::{LINK, file_of, is_translated_on_disk, text_of};
@@ -53,7 +57,9 @@ pub(crate) fn bytes_at<F: Folder>(
     alloc: Global,
     folder: &F,
     path: &RelPath,
-) -> Result<Option<Text>, DiskFault> {
+) -> Result<Option<Text>, DiskFault>
+    ensures { IfOk result (λ found. MatchOption found ⊤ (λ bytes. IsAlways (λ s. HasBytes bytes (seen s path.now)) (F.past folder.now))) }
+{
     let Some(entry) = folder.look(alloc, path)? else {
         return Ok(None);
     };

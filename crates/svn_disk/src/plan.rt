@@ -22,9 +22,12 @@ pub enum Change {
     Replaced,
     /// A file has another text on disk, or is used in another way.
     Rewritten,
-    /// What the copy keeps of the node changes, and nothing on disk.
+    /// What the copy keeps of the node changes, its properties, and nothing on disk.
     Recorded,
-    /// A directory that isn't on disk is made again, for what comes in it.
+    /// Only where the node is from changes, its revision or its path in the repository, or whether all of a directory is there; or a note comes or goes that
+    /// there is no node. Nothing of the node itself is touched, so no local change is in the way.
+    Bumped,
+    /// A node that isn't on disk is made again: a directory for what comes in it, or whatever it was asked for of.
     Restored,
 }
 
@@ -44,7 +47,12 @@ impl Change {
 
     // Whether something changes on disk.
     fn is_on_disk(self) -> bool {
-        !matches!(self, Change::Recorded)
+        !matches!(self, Change::Recorded | Change::Bumped)
+    }
+
+    /// Whether something of the node itself changes, on disk or in what the copy keeps of it.
+    pub(crate) fn touches(self) -> bool {
+        !matches!(self, Change::Bumped)
     }
 }
 
@@ -57,20 +65,34 @@ pub struct PathChange {
     pub change: Change,
 }
 
+// Whether two nodes have the same text and the same properties.
+fn is_same_node(old: &BaseNode, new: &BaseNode) -> bool {
+    old.text() == new.text() && old.props() == new.props()
+}
+
+// What becomes of a node of one kind that nothing on disk changes of.
+fn change_of_record(old: &BaseNode, new: &BaseNode) -> Change {
+    if is_same_node(old, new) {
+        Change::Bumped
+    } else {
+        Change::Recorded
+    }
+}
+
 // What becomes of a node that both copies have.
 fn change_between(old: &BaseNode, new: &BaseNode) -> Option<Change> {
     if old == new {
         return None;
     }
     Some(match (old.kind(), new.kind()) {
-        (None, None) => Change::Recorded,
+        (None, None) => Change::Bumped,
         (None, Some(_)) => Change::Added,
         (Some(_), None) => Change::Removed,
         (Some(was), Some(is)) => {
             if was != is {
                 Change::Replaced
             } else if is_same_on_disk(old, new) {
-                Change::Recorded
+                change_of_record(old, new)
             } else {
                 Change::Rewritten
             }
@@ -86,12 +108,12 @@ fn change_of(old: Option<&BaseNode>, new: Option<&BaseNode>) -> Option<Change> {
         (Some(old), None) => Some(if old.is_present() {
             Change::Removed
         } else {
-            Change::Recorded
+            Change::Bumped
         }),
         (None, Some(new)) => Some(if new.is_present() {
             Change::Added
         } else {
-            Change::Recorded
+            Change::Bumped
         }),
     }
 }
@@ -174,9 +196,39 @@ impl<'a> Plan<'a> {
         Ok(())
     }
 
+    // Whether a node stays, and nothing on disk becomes of it so far.
+    fn stays(&self, path: &RelPath) -> bool {
+        let is_planned = match self.changes.get(path) {
+            Some(change) => change.is_on_disk(),
+            None => false,
+        };
+        match self.new.get(path) {
+            Some(node) => node.is_present() && !is_planned,
+            None => false,
+        }
+    }
+
+    /// Plans those of these nodes that stay, since they aren't on disk.
+    pub(crate) fn restore_nodes(&mut self, missing: &BTreeSet<RelPath>) -> Result<(), DiskFault> {
+        for path in missing {
+            if self.stays(path) {
+                self.changes.insert(path.clone()?, Change::Restored)?;
+            }
+        }
+        Ok(())
+    }
+
     /// Whether nothing differs.
     pub(crate) fn is_empty(&self) -> bool {
         self.changes.is_empty()
+    }
+
+    /// Whether something of the node at a path changes, on disk or in what the copy keeps of it.
+    pub(crate) fn touches(&self, path: &RelPath) -> bool {
+        match self.changes.get(path) {
+            Some(change) => change.touches(),
+            None => false,
+        }
     }
 
     /// Whether something changes on disk at a path.

@@ -1,10 +1,11 @@
 //! Files of a copy, under names of their own.
 ghost use Rattle.svn_disk.specs.Goes.{Goes};
-ghost use Rattle.svn_disk.specs.Places.{is_inside};
+ghost use Rattle.svn_disk.specs.Places.{is_temporary};
 
 use crate::fault::DiskFault;
 use crate::layout::Admin;
 use crate::node_file::{is_special, link_target, mode_of, props_if_locked};
+use crate::steps::make;
 use std::alloc::Global;
 use svn_folder::{Entry, Folder};
 use svn_types::{Props, RelPath, Text};
@@ -45,13 +46,13 @@ pub(crate) fn prepare<F: Folder>(
     number: usize,
     file: &Prepared<'_>,
 ) -> Result<bool, DiskFault>
-    ensures { Goes (is_inside admin.now.name) (F.past folder.old) result (F.past folder.new) }
+    ensures { Goes (is_temporary admin.now.name) (F.past folder.old) result (F.past folder.new) }
 {
     let place = admin.text(alloc, file.name.as_slice())?;
     let new = admin.new_file(alloc, number)?;
     match target_of(alloc, folder, &place, file.props)? {
         Some(target) => {
-            admin.make(folder, new, Entry::Link(target))?;
+            make(folder, new, Entry::Link(target))?;
             Ok(false)
         }
         None => {
@@ -70,7 +71,7 @@ pub(crate) fn prepare_unless_locked<F: Folder>(
     number: usize,
     file: (&Prepared<'_>, bool),
 ) -> Result<bool, DiskFault>
-    ensures { Goes (is_inside admin.now.name) (F.past folder.old) result (F.past folder.new) }
+    ensures { Goes (is_temporary admin.now.name) (F.past folder.old) result (F.past folder.new) }
 {
     let (file, is_locked) = file;
     if !is_locked {

@@ -3,9 +3,9 @@ ghost use Rattle.std.specs.Prelude.{◌≡◌, true, Some, IfOk, OnOk};
 ghost use Rattle.svn_wcrows.specs.Copies.{StandsFor};
 ghost use Rattle.svn_folder.specs.States.{seen};
 ghost use Rattle.svn_disk.specs.Goes.{IsAlways};
-ghost use Rattle.svn_disk.specs.Places.{text_place, database_place};
+ghost use Rattle.svn_disk.specs.Places.{database_place};
 ghost use Rattle.svn_disk.specs.Plans.{present_nodes};
-ghost use Rattle.svn_disk.specs.Crashes.{HasBytes, IsTextOf, OfText, EachText, IsWhole};
+ghost use Rattle.svn_disk.specs.Crashes.{HasBytes, IsTextIn, OfText, EachText, IsWhole};
 
 use crate::fault::DiskFault;
 use crate::layout::Admin;
@@ -25,7 +25,7 @@ fn refuse_no_text<F: Folder>(
     path: &RelPath,
     node: &BaseNode,
 ) -> Result<(), DiskFault>
-    ensures { OnOk result (IsAlways (λ s. OfText (λ t. IsTextOf t (seen s (text_place admin.now.name t))) node.now) (F.past folder.now)) }
+    ensures { OnOk result (IsAlways (λ s. OfText (IsTextIn admin.now.name (seen s)) node.now) (F.past folder.now)) }
 {
     let Some((name, _)) = file_of(node) else {
         return Ok(());
@@ -44,7 +44,7 @@ fn read_texts<F: Folder>(
     admin: &Admin,
     copy: &WorkingCopy,
 ) -> Result<(), DiskFault>
-    ensures { OnOk result (IsAlways (λ s. EachText (λ t. IsTextOf t (seen s (text_place admin.now.name t))) copy.now) (F.past folder.now)) }
+    ensures { OnOk result (IsAlways (λ s. EachText (IsTextIn admin.now.name (seen s)) copy.now) (F.past folder.now)) }
 {
     for (path, node) in copy.iter() {
         refuse_no_text(alloc, folder, admin, path, node)?;
@@ -88,7 +88,7 @@ pub(crate) fn read_back<F: Folder>(
     image: &Text,
 ) -> Result<(), DiskFault>
     requires { StandsFor (present_nodes copy.now) image.now }
-    ensures { OnOk result (IsAlways (λ s. IsWhole admin.now.name copy.now (seen s)) (F.past folder.now)) }
+    ensures { OnOk result (IsAlways (λ s. IsWhole admin.now.name (present_nodes copy.now) (seen s)) (F.past folder.now)) }
 {
     read_texts(alloc, folder, admin, copy)?;
     if has_database(alloc, folder, admin, image)? {

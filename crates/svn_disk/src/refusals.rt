@@ -103,7 +103,7 @@ impl<F: Folder> Beside<'_, F> {
     // Refuses what is at a path that changes.
     fn refuse_at(&self, path: &RelPath, change: Change) -> Result<(), DiskFault> {
         match (change, self.plan.old.get(path)) {
-            (Change::Recorded, _) => Ok(()),
+            (Change::Recorded | Change::Bumped, _) => Ok(()),
             (Change::Removed | Change::Replaced | Change::Rewritten, Some(node)) => {
                 self.refuse_node(path, node)
             }
@@ -122,7 +122,8 @@ impl<F: Folder> Beside<'_, F> {
 
 /// Refuses a change of a copy. Local at the first local change that is in the way; NoDirectory at the first directory above something that changes
 /// where something else is on disk; then at the first path that changes NoDirectory where the copy has a directory and the disk hasn't, Changed where a
-/// file on disk has another text than the copy's, InTheWay where something is on disk that the copy doesn't have. Folder, Path, Memory.
+/// file on disk has another text than the copy's, InTheWay where something is on disk that the copy doesn't have. Where nothing changes on disk nothing there
+/// is looked at, so that an edited file stays whose text doesn't change. Folder, Path, Memory.
 pub(crate) fn refuse<F: Folder>(
     alloc: Global,
     folder: &F,

@@ -10,7 +10,7 @@ use std::collections::BTreeMap;
 use svn_model::BaseNode;
 use svn_types::{RelPath, Text};
 use svn_wcdb::TableRow;
-use svn_wcrows::{Recorded, node_record};
+use svn_wcrows::{Absence, Recorded, node_record, not_present_record};
 
 /// The sizes in bytes of the files that are written anew, by their paths; none of a link.
 pub(crate) type Sizes = BTreeMap<RelPath, Option<u64>>;
@@ -75,8 +75,47 @@ impl<S: Source> RowMaker<'_, S> {
         }
     }
 
+    // Where in the repository a node would be that isn't present, and whether it is a directory: where it was, else below the directory above, as a file that
+    // an edit which was stopped has begun to add.
+    fn absent_place(&self, path: &RelPath) -> Result<(RelPath, bool), DiskFault> {
+        if let Some(old) = self.existing.copy.get(path) {
+            if let Some(repos_path) = old.repos_path() {
+                return Ok((repos_path.clone()?, old.is_directory()));
+            }
+        }
+        let (Some(name), Some(parent)) = (path.last_name(), path.parent(self.alloc)?) else {
+            return Err(DiskFault::NoRoot);
+        };
+        match self.wanted.copy.get(&parent) {
+            Some(BaseNode::Dir { repos_path, .. }) => {
+                Ok((repos_path.join(self.alloc, name)?, false))
+            }
+            _ => Err(DiskFault::NoRoot),
+        }
+    }
+
+    // The record of a node that isn't present any more, or not yet.
+    fn record_absent(&self, path: &RelPath) -> Result<Text, DiskFault> {
+        let (repos_path, is_directory) = self.absent_place(path)?;
+        let absence = Absence {
+            rev: self.wanted.absent_rev(self.alloc),
+            repos_path: &repos_path,
+            is_directory,
+        };
+        Ok(not_present_record(self.alloc, self.existing.owner, path, &absence)?)
+    }
+
     // The record of a node that is another than it was.
     fn record(&self, path: &RelPath, node: &BaseNode) -> Result<Text, DiskFault> {
+        if node.is_present() {
+            self.record_present(path, node)
+        } else {
+            self.record_absent(path)
+        }
+    }
+
+    // The same of one that is present.
+    fn record_present(&self, path: &RelPath, node: &BaseNode) -> Result<Text, DiskFault> {
         let change = match last_change(self.alloc, self.source, node) {
             Ok(change) => change,
             Err(_) => return Err(DiskFault::Memory),

@@ -1,8 +1,12 @@
 //! Steps that belong together.
-ghost use Rattle.std.specs.Prelude.{◌≡◌, ◌∷◌, [], true, None};
+ghost use Rattle.std.specs.Prelude.{◌≡◌, ◌∷◌, [], ℕ, List, true, None, IfOk};
 ghost use Rattle.svn_folder.specs.declared.entry.Entry.TheVariants as entry;
 ghost use Rattle.svn_folder.specs.declared.step.Step.TheVariants as step;
-ghost use Rattle.svn_disk.specs.Goes.{Does, TakesOne};
+ghost use Rattle.svn_types.specs.Paths.{is_within};
+ghost use Rattle.svn_folder.specs.Files.{is_sync};
+ghost use Rattle.svn_folder.specs.States.{seen};
+ghost use Rattle.svn_disk.specs.Goes.{Goes, Does, TakesOne, IsAlways};
+ghost use Rattle.svn_disk.specs.Crashes.{IsAdding};
 
 use crate::fault::DiskFault;
 use std::alloc::Global;
@@ -46,6 +50,16 @@ pub(crate) fn make<F: Folder>(folder: &mut F, path: RelPath, entry: Entry) -> Re
     )
 }
 
+// Whether nothing is at a path.
+fn is_vacant<F: Folder>(alloc: Global, folder: &F, path: &RelPath) -> Result<bool, DiskFault>
+    ensures { IfOk result (λ vacant. vacant ≡ true → IsAlways (λ s. seen s path.now ≡ None) (F.past folder.now)) }
+{
+    match folder.look(alloc, path)? {
+        None => Ok(true),
+        Some(_) => Ok(false),
+    }
+}
+
 /// Makes a directory, if nothing is there.
 #[tactic(auto, using(crate::proofs::Going::keeps_more, crate::proofs::Going::stops_more, crate::proofs::Going::stops_there, crate::proofs::Going::stops_none))]
 pub(crate) fn make_directory_if_none<F: Folder>(
@@ -53,12 +67,13 @@ pub(crate) fn make_directory_if_none<F: Folder>(
     folder: &mut F,
     path: &RelPath,
 ) -> Result<(), DiskFault>
-    ensures { Does (step.Make path.now entry.Directory None ∷ []) (F.past folder.old) result (F.past folder.new) }
+    ensures does { Does (step.Make path.now entry.Directory None ∷ []) (F.past folder.old) result (F.past folder.new) }
+    ensures adds { (n : List ℕ) → is_within (n ∷ []) path.now ≡ true → IsAdding n (F.past folder.old) result (F.past folder.new) }
 {
-    if folder.look(alloc, path)?.is_some() {
-        return Ok(());
+    if is_vacant(alloc, folder, path)? {
+        return make(folder, path.clone()?, Entry::Directory);
     }
-    make(folder, path.clone()?, Entry::Directory)
+    Ok(())
 }
 
 /// Removes a file or a link, if one is there.
@@ -74,6 +89,13 @@ pub(crate) fn remove_if_any<F: Folder>(
         Some(entry) if entry.is_leaf() => take(folder, Step::RemoveFile(path.clone()?)),
         _ => Ok(()),
     }
+}
+
+/// Brings the bytes of files to the disk.
+pub(crate) fn sync_files<F: Folder>(folder: &mut F, paths: &[RelPath]) -> Result<(), DiskFault>
+    ensures { Goes is_sync (F.past folder.old) result (F.past folder.new) }
+{
+    Ok(folder.sync_files(paths)?)
 }
 
 /// Gives a file another path.

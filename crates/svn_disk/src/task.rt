@@ -1,6 +1,12 @@
 //! What is left to do on disk for a change: what goes, and then what comes.
+ghost use Rattle.std.specs.Prelude.{◌≡◌, Bool, true, IfSome};
+ghost use Rattle.std.specs.List.{list_all};
+ghost use Rattle.svn_wcrows.specs.declared.work.Work.{Work};
+ghost use Rattle.svn_disk.specs.Places.{is_outside};
+ghost use Rattle.svn_disk.specs.Plans.{path_of};
 
 use crate::fault::DiskFault;
+use crate::layout::is_outside;
 use crate::plan::Plan;
 use std::alloc::Global;
 use std::collections::BTreeSet;
@@ -23,6 +29,13 @@ fn is_removal(work: &Work) -> bool {
     }
 }
 
+// Whether none of it is in the administrative folder, or at the path of the copy itself.
+fn is_all_outside(work: &[Work]) -> bool
+    ensures { result ≡ list_all (λ item. is_outside (path_of item)) work.now }
+{
+    work.iter().all(|item| is_outside(item.path()))
+}
+
 impl Task {
     /// That of a plan.
     pub(crate) fn of_plan(alloc: Global, plan: &Plan<'_>) -> Result<Task, DiskFault> {
@@ -33,8 +46,14 @@ impl Task {
         Ok(Task { work, removals })
     }
 
-    /// That of a queue which this library left; none if it makes something before all that goes is removed.
-    pub(crate) fn of_queue(work: Vec<Work>) -> Option<Task> {
+    /// That of a queue which this library left; none if it makes something before all that goes is removed, or is about the administrative folder.
+    pub(crate) fn of_queue(work: Vec<Work>) -> Option<Task>
+        ensures outside { IfSome result (λ task. list_all (λ item. is_outside (path_of item)) task.work.items ≡ true) }
+        ensures same { IfSome result (λ task. task.work.items ≡ work.items) }
+    {
+        if !is_all_outside(&work) {
+            return None;
+        }
         let removals = work
             .iter()
             .position(|item| !is_removal(item))
@@ -48,13 +67,19 @@ impl Task {
     }
 
     /// What goes.
-    pub(crate) fn removals(&self) -> &[Work] {
-        self.work.get(..self.removals).unwrap_or(&[])
+    pub(crate) fn removals(&self) -> &[Work]
+        ensures { (P : Work → Bool) → list_all P self.now.work.items ≡ true → list_all P result.now ≡ true }
+    {
+        let count = self.removals.min(self.work.len());
+        &self.work[..count]
     }
 
     /// What comes.
-    pub(crate) fn makings(&self) -> &[Work] {
-        self.work.get(self.removals..).unwrap_or(&[])
+    pub(crate) fn makings(&self) -> &[Work]
+        ensures { (P : Work → Bool) → list_all P self.now.work.items ≡ true → list_all P result.now ≡ true }
+    {
+        let count = self.removals.min(self.work.len());
+        &self.work[count..]
     }
 
     /// Whether nothing is left to do.

@@ -1,4 +1,6 @@
 //! What an earlier run has left in the folder of what has no name yet.
+ghost use Rattle.svn_disk.specs.Goes.{Goes};
+ghost use Rattle.svn_disk.specs.Places.{is_temporary};
 
 use crate::fault::DiskFault;
 use crate::layout::Admin;
@@ -16,7 +18,9 @@ fn clear_name<F: Folder>(
     folder: &mut F,
     admin: &Admin,
     name: &Name,
-) -> Result<(), DiskFault> {
+) -> Result<(), DiskFault>
+    ensures { Goes (is_temporary admin.now.name) (F.past folder.old) result (F.past folder.new) }
+{
     if !name.as_str().starts_with(OWN) {
         return Ok(());
     }
@@ -29,11 +33,14 @@ pub(crate) fn clear_temporary<F: Folder>(
     alloc: Global,
     folder: &mut F,
     admin: &Admin,
-) -> Result<(), DiskFault> {
+) -> Result<(), DiskFault>
+    ensures { Goes (is_temporary admin.now.name) (F.past folder.old) result (F.past folder.new) }
+{
     let temporary = admin.temporary(alloc)?;
     make_directory_if_none(alloc, folder, &temporary)?;
-    for name in folder.list(alloc, &temporary)? {
-        clear_name(alloc, folder, admin, &name)?;
+    let names = folder.list(alloc, &temporary)?;
+    for name in &names {
+        clear_name(alloc, folder, admin, name)?;
     }
     Ok(())
 }

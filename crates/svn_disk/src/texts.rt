@@ -1,18 +1,19 @@
 //! Pristine texts, brought to disk.
-ghost use Rattle.std.specs.Prelude.{◌≡◌, true, IfOk};
+ghost use Rattle.std.specs.Prelude.{◌≡◌, ◌↔◌, true, false, IfOk, IsTrue};
 ghost use Rattle.svn_digits.specs.StandIns.{stand_in_of};
 ghost use Rattle.svn_folder.specs.States.{seen};
-ghost use Rattle.svn_disk.specs.Goes.{Goes, IsAlways};
-ghost use Rattle.svn_disk.specs.Places.{is_inside, text_place};
-ghost use Rattle.svn_disk.specs.Crashes.{HasSum, IsTextOf};
+ghost use Rattle.svn_disk.specs.Goes.{IsAlways};
+ghost use Rattle.svn_disk.specs.Places.{IsTemporary};
+ghost use Rattle.svn_disk.specs.Crashes.{HasName, IsTextIn, IsAdding};
 
 use crate::fault::DiskFault;
 use crate::layout::Admin;
 use crate::source::{Source, TextSums};
+use crate::steps::{rename, take};
 use std::alloc::Global;
 use std::collections::BTreeMap;
 use svn_digits::stand_in_of;
-use svn_folder::{Folder, Mode, Summary};
+use svn_folder::{Folder, Mode, Step, Summary};
 use svn_types::{RelPath, Sha1Sum, Text};
 use svn_wcdb::TableRow;
 use svn_wcrows::{number_at, pristine_record, text_at};
@@ -42,13 +43,13 @@ pub(crate) fn sum_of(alloc: Global, name: &Text) -> Result<Sha1Sum, DiskFault>
     }
 }
 
-// Whether it is a file with this checksum.
-fn has_sum(found: &Summary, sum: &Sha1Sum) -> bool
-    ensures { result ≡ true → HasSum sum.now found.now }
+// Whether it is a file with the checksum of this stand-in.
+fn has_name(alloc: Global, found: &Summary, name: &Text) -> Result<bool, DiskFault>
+    ensures { IfOk result (λ has. IsTrue has ↔ HasName name.now found.now) }
 {
     match found {
-        Summary::File { sha1, .. } => sha1 == sum,
-        Summary::Directory | Summary::Link(_) => false,
+        Summary::File { sha1, .. } => Ok(stand_in_of(alloc, &sha1.0)? == *name),
+        Summary::Directory | Summary::Link(_) => Ok(false),
     }
 }
 
@@ -59,12 +60,12 @@ pub(crate) fn has_text<F: Folder>(
     admin: &Admin,
     name: &Text,
 ) -> Result<bool, DiskFault>
-    ensures { IfOk result (λ has. has ≡ true → IsAlways (λ s. IsTextOf name.now (seen s (text_place admin.now.name name.now))) (F.past folder.now)) }
+    ensures there { IfOk result (λ has. has ≡ true → IsAlways (λ s. IsTextIn admin.now.name (seen s) name.now) (F.past folder.now)) }
+    ensures lacking { IfOk result (λ has. has ≡ false → IsAlways (λ s. IsTextIn admin.now.name (seen s) name.now → ⊥) (F.past folder.now)) }
 {
     let place = admin.text(alloc, name.as_slice())?;
-    let wanted = sum_of(alloc, name)?;
     match folder.sum(alloc, &place)? {
-        Some(found) => Ok(has_sum(&found, &wanted)),
+        Some(found) => has_name(alloc, &found, name),
         None => Ok(false),
     }
 }
@@ -106,20 +107,50 @@ impl Texts {
         admin: &Admin,
         rows: &mut Vec<TableRow>,
         file: (&RelPath, &Text),
-    ) -> Result<u64, DiskFault> {
+    ) -> Result<u64, DiskFault>
+        ensures { IsAdding admin.now.name (F.past folder.old) result (F.past folder.new) }
+    {
+        self.put_lost(folder, source, admin, file)?;
+        self.keep(folder, source, admin, rows, file)
+    }
+
+    // Writes a text anew that has a row, and that the folder hasn't under its name.
+    fn put_lost<F: Folder, S: Source>(
+        &self,
+        folder: &mut F,
+        source: &mut S,
+        admin: &Admin,
+        file: (&RelPath, &Text),
+    ) -> Result<(), DiskFault>
+        ensures { IsAdding admin.now.name (F.past folder.old) result (F.past folder.new) }
+    {
         let (path, name) = file;
         let sum = sum_of(self.alloc, name)?;
-        let is_lost = match self.sizes.get(&sum.0) {
-            Some(_) => !has_text(self.alloc, folder, admin, name)?,
-            None => false,
-        };
-        if is_lost {
-            if source.begin_text(&sum).is_none() {
-                return Err(DiskFault::NoText(path.clone()?));
-            }
-            self.put(folder, source, admin, name)?;
+        if !self.sizes.contains_key(&sum.0) || has_text(self.alloc, folder, admin, name)? {
+            return Ok(());
         }
-        self.keep(folder, source, admin, rows, file)
+        if source.begin_text(&sum).is_none() {
+            return Err(DiskFault::NoText(path.clone()?));
+        }
+        self.put(folder, source, admin, name)
+    }
+
+    // Gives a text that was written its name, unless it is there already: a text that is kept is never replaced.
+    fn give_name<F: Folder>(
+        &self,
+        folder: &mut F,
+        admin: &Admin,
+        name: &Text,
+        new: &RelPath,
+    ) -> Result<(), DiskFault>
+        requires { IsTemporary admin.now.name new.now }
+        ensures { IsAdding admin.now.name (F.past folder.old) result (F.past folder.new) }
+    {
+        let place = admin.text(self.alloc, name.as_slice())?;
+        if has_text(self.alloc, folder, admin, name)? {
+            return take(folder, Step::RemoveFile(new.clone()?));
+        }
+        rename(folder, new, &place)
     }
 
     // Writes a text under its name.
@@ -130,7 +161,7 @@ impl Texts {
         admin: &Admin,
         name: &Text,
     ) -> Result<(), DiskFault>
-        ensures { Goes (is_inside admin.now.name) (F.past folder.old) result (F.past folder.new) }
+        ensures { IsAdding admin.now.name (F.past folder.old) result (F.past folder.new) }
     {
         let place = admin.text(self.alloc, name.as_slice())?;
         let new = admin.new_text(self.alloc)?;
@@ -139,7 +170,7 @@ impl Texts {
         };
         admin.make_directory_if_none(self.alloc, folder, &above)?;
         admin.make_text(self.alloc, folder, &new, PRISTINE, source)?;
-        admin.rename(folder, &new, &place)
+        self.give_name(folder, admin, name, &new)
     }
 
     // Adds the row of a text.
@@ -168,7 +199,7 @@ impl Texts {
         rows: &mut Vec<TableRow>,
         file: (&RelPath, &Text),
     ) -> Result<u64, DiskFault>
-        ensures { Goes (is_inside admin.now.name) (F.past folder.old) result (F.past folder.new) }
+        ensures { IsAdding admin.now.name (F.past folder.old) result (F.past folder.new) }
     {
         let (path, name) = file;
         let sum = sum_of(self.alloc, name)?;

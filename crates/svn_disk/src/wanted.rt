@@ -1,12 +1,13 @@
 //! What a copy on disk is brought to.
+ghost use Rattle.std.specs.Prelude.{◌≡◌, IfOk};
 
 use crate::fault::DiskFault;
 use crate::inherited::inherited_props;
 use std::alloc::Global;
-use std::collections::BTreeMap;
+use std::collections::{BTreeMap, BTreeSet};
 use svn_model::BaseNode;
 use svn_repo::Repo;
-use svn_types::RelPath;
+use svn_types::{RelPath, Rev};
 use svn_wc::WorkingCopy;
 
 /// What a copy on disk is brought to.
@@ -16,6 +17,10 @@ pub struct Wanted {
     pub(crate) copy: WorkingCopy,
     /// The time of files that are written anew, in microseconds since 1970.
     pub(crate) time: u64,
+    // The revision in which nodes aren't present that were; none where it is the root's.
+    absent_in: Option<Rev>,
+    /// What is made again where nothing else becomes of it.
+    pub(crate) restored: BTreeSet<RelPath>,
     // What the root and switched paths inherit, as far as they change.
     inherited: BTreeMap<RelPath, Vec<u8>>,
 }
@@ -52,7 +57,9 @@ impl Wanted {
         old: &WorkingCopy,
         copy: WorkingCopy,
         time: u64,
-    ) -> Result<Wanted, DiskFault> {
+    ) -> Result<Wanted, DiskFault>
+        ensures { IfOk result (λ wanted. wanted.copy ≡ copy) }
+    {
         let mut inherited = BTreeMap::new(alloc);
         for (path, node) in copy.iter() {
             if old.get(path) != Some(node) && is_top(alloc, &copy, path, node)? {
@@ -64,8 +71,41 @@ impl Wanted {
         Ok(Wanted {
             copy,
             time,
+            absent_in: None,
+            restored: BTreeSet::new(alloc),
             inherited,
         })
+    }
+
+    /// The same, where it is this revision in which nodes that were present no longer are. It is recorded, and else that of the copy's root.
+    pub fn absent_in(self, rev: Rev) -> Wanted
+        ensures { result.copy ≡ self.copy }
+    {
+        Wanted {
+            absent_in: Some(rev),
+            ..self
+        }
+    }
+
+    /// The same, where these nodes aren't on disk: those that stay are made again.
+    pub fn restoring(self, missing: BTreeSet<RelPath>) -> Wanted
+        ensures { result.copy ≡ self.copy }
+    {
+        Wanted {
+            restored: missing,
+            ..self
+        }
+    }
+
+    /// The revision in which nodes aren't present that were.
+    pub(crate) fn absent_rev(&self, alloc: Global) -> Rev {
+        if let Some(rev) = self.absent_in {
+            return rev;
+        }
+        match self.copy.get(&RelPath::root(alloc)) {
+            Some(root) => root.rev().unwrap_or(Rev(0)),
+            None => Rev(0),
+        }
     }
 
     /// What a node inherits from above the copy, or above where its path is switched to, if it is recorded anew.

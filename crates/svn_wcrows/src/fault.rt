@@ -22,7 +22,7 @@ pub enum RowsFault {
     /// A number is above 9,223,372,036,854,775,807, the largest that a column can have.
     #[error("a number is too large for the database")]
     TooLarge,
-    /// The node isn't present: a row for it is kept, and never made.
+    /// The node isn't present: its row isn't that of a base node.
     #[error("no row is made for a node that isn't present")]
     NotPresent,
     /// What was written isn't read back as the nodes that were to be written. As some of `ImageFault`, this is a fault of this crate.

@@ -13,7 +13,7 @@
 //! | `lawful` | what the types of paths and properties keep | |
 //! | `skel`, `properties`, `inherited` | lists of atoms (skels), properties, properties from above | `Skels` |
 //! | `paths`, `values` | paths as columns have them; the columns of a row | `Values` |
-//! | `node_row`, `small_rows` | a row of NODES, of a base node; rows of the smaller tables | `Rows` |
+//! | `node_row`, `not_present`, `small_rows` | a row of NODES, of a base node; of one that isn't present; rows of the smaller tables | `Rows` |
 //! | `work` | what is left to do on disk, as items of the work queue | `Work`, `WorkAtoms` |
 //! | `tables`, `read`, `counts` | all tables; read from a database; how many nodes have each text | `Databases`, `Tables` |
 //! | `schema`, `indexes`, `database` | the schema's texts; the records of indexes; the file | `Databases` |
@@ -25,7 +25,7 @@
 //! ([`write_tables`], by `AreWritten`), and stands for a working copy with the nodes that were named ([`write_copy`], by `IsCopyOf`). Of a database exactly
 //! its rows are read, or the first fault is returned ([`read_tables`], by `tables_of`); of rows of work the items that they are, and none where one is a
 //! client's ([`read_work`], by `AreRead`; [`work_is_read_back`]). Not proved: that a whole base tree is read back, so that the comparison never fails; what
-//! indexes and the smaller tables have. What tests compare with SQLite and with Subversion is in `examples/subversion/checkouts.sh` and
+//! indexes, the smaller tables and the rows of nodes that aren't present have. What tests compare with SQLite and with Subversion is in `examples/subversion/checkouts.sh` and
 //! `stored_databases.sh` beside it.
 #![tactic(auto)]
 
@@ -38,6 +38,7 @@ mod inherited;
 mod lawful;
 mod laws;
 mod node_row;
+mod not_present;
 mod paths;
 mod properties;
 mod read;
@@ -56,6 +57,7 @@ pub use laws::{
     nodes_are_read_back, properties_are_read_back, rows_are_read_back, work_is_read_back,
 };
 pub use node_row::{LastChange, Owner, Recorded, node_record};
+pub use not_present::{Absence, not_present_record};
 pub use properties::push_props;
 pub use read::read_tables;
 pub use small_rows::{lock_row, pristine_record};

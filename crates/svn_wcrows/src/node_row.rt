@@ -88,7 +88,8 @@ struct OwnRecorded {
     inherited: Option<Text>,
 }
 
-fn number(number: u64) -> Result<ValueRef<'static>, RowsFault>
+// The value of a number.
+pub(crate) fn number(number: u64) -> Result<ValueRef<'static>, RowsFault>
     ensures { IfOk result (λ value. owned value ≡ stored.Int (pos number)) }
 {
     match i64::try_from(number) {
@@ -97,7 +98,8 @@ fn number(number: u64) -> Result<ValueRef<'static>, RowsFault>
     }
 }
 
-fn string_or_null(text: &Option<String>) -> ValueRef<'_>
+// The value of a text, NULL where there is none.
+pub(crate) fn string_or_null(text: &Option<String>) -> ValueRef<'_>
     ensures { owned result ≡ text_value (option_map (λ t. t.bytes.items) text.now) }
 {
     match text {
@@ -171,8 +173,8 @@ fn props_of(alloc: Global, props: &Props) -> Result<Option<Vec<u8>>, AllocError>
     Ok(Some(bytes))
 }
 
-// The path above a path.
-fn parent_of(alloc: Global, path: &RelPath) -> Result<Option<String>, AllocError>
+// The path above a path, none of the root.
+pub(crate) fn parent_of(alloc: Global, path: &RelPath) -> Result<Option<String>, AllocError>
     ensures { IfOk result (λ column. option_map (λ t. t.bytes.items) column ≡ parent_column path.now) }
 {
     match path.parent(alloc)? {

@@ -2,9 +2,10 @@
 
 use clap::{Arg, ArgAction, ArgMatches, Command, Error};
 use std::alloc::{AllocError, Global};
+use svn_types::Rev;
 
 const ABOUT: &str =
-    "Makes working copies of Subversion from a dump of a repository, and puts them right.";
+    "Makes working copies of Subversion from a dump of a repository, updates them, and puts them right.";
 
 const AFTER: &str = "\
 docs/COPY.md describes what is written and what is refused.
@@ -57,12 +58,46 @@ pub(crate) struct Resume<'a> {
     pub(crate) no_sync: bool,
 }
 
+/// `update DUMP WC [REV]`: bring a working copy, or a path of one, to a revision.
+#[derive(Clone, Copy, Debug)]
+pub(crate) struct UpdateWords<'a> {
+    /// The dump, `-` for standard input.
+    pub(crate) dump: &'a str,
+    /// The folder, or something in one.
+    pub(crate) folder: &'a str,
+    /// The revision, if one is given.
+    pub(crate) rev: Option<Rev>,
+    /// After how many calls to stop, if that was asked for.
+    pub(crate) limit: Option<u64>,
+    /// Whether the texts of files come after all directories are closed.
+    pub(crate) late_texts: bool,
+    /// Whether to say what would be done, and to do nothing.
+    pub(crate) dry_run: bool,
+    /// Whether to print how far it is.
+    pub(crate) progress: bool,
+    /// Whether nothing is brought to the disk.
+    pub(crate) no_sync: bool,
+}
+
+/// `switch DUMP WC URL [REV]`: bring a working copy, or a path of one, to another path of the repository.
+#[derive(Clone, Copy, Debug)]
+pub(crate) struct Switch<'a> {
+    /// The URL, or `^/` and the path in the repository; with a revision after `@` if one is given.
+    pub(crate) url: &'a str,
+    /// What, and how.
+    pub(crate) how: UpdateWords<'a>,
+}
+
 /// What is asked for.
 #[derive(Debug, Drop)]
 pub(crate) enum Request<'a> {
     Checkout(Checkout<'a>),
     Mend(Mend<'a>),
     Resume(Resume<'a>),
+    Update(UpdateWords<'a>),
+    Switch(Switch<'a>),
+    // A word is no number that one is wanted for.
+    BadNumber(&'a str),
 }
 
 fn word<'a>(alloc: Global, id: &'a str, name: &'a str, help: &'a str) -> Arg<'a> {
@@ -142,6 +177,72 @@ fn resume_command<'a>(alloc: Global) -> Result<Command<'a>, AllocError> {
         .arg(no_sync(alloc))
 }
 
+// The revision.
+fn revision<'a>(alloc: Global) -> Arg<'a> {
+    Arg::new(alloc, "rev")
+        .value_name("REV")
+        .help("The revision, by default the last one of the dump")
+}
+
+// After how many calls to stop.
+fn limit<'a>(alloc: Global) -> Arg<'a> {
+    Arg::new(alloc, "limit").long("limit").value_name("N").help(
+        "Stop after N calls of the edit, and leave an incomplete copy, which another update completes",
+    )
+}
+
+// The word that has texts come last.
+fn late_texts<'a>(alloc: Global) -> Arg<'a> {
+    Arg::new(alloc, "late-texts")
+        .long("late-texts")
+        .action(ArgAction::SetTrue)
+        .help("Have the texts of files come after all directories are closed")
+}
+
+// The words that say how.
+fn with_how<'a>(alloc: Global, command: Command<'a>) -> Result<Command<'a>, AllocError> {
+    command
+        .arg(limit(alloc))?
+        .arg(late_texts(alloc))?
+        .arg(dry_run(alloc))?
+        .arg(progress(alloc))?
+        .arg(no_sync(alloc))
+}
+
+fn update_command<'a>(alloc: Global) -> Result<Command<'a>, AllocError> {
+    let command = Command::new(alloc, "update")
+        .about("Bring a working copy, or a path of one, to a revision")
+        .arg(word(alloc, "dump", "DUMP", "The dump, or - for standard input"))?
+        .arg(word(
+            alloc,
+            "folder",
+            "WC[/PATH]",
+            "The folder of a working copy, or something in one",
+        ))?
+        .arg(revision(alloc))?;
+    with_how(alloc, command)
+}
+
+fn switch_command<'a>(alloc: Global) -> Result<Command<'a>, AllocError> {
+    let command = Command::new(alloc, "switch")
+        .about("Bring a working copy, or a path of one, to another path of the repository")
+        .arg(word(alloc, "dump", "DUMP", "The dump, or - for standard input"))?
+        .arg(word(
+            alloc,
+            "folder",
+            "WC[/PATH]",
+            "The folder of a working copy, or something in one",
+        ))?
+        .arg(word(
+            alloc,
+            "url",
+            "URL|^/PATH",
+            "The URL, or ^/ and the path in the repository",
+        ))?
+        .arg(revision(alloc))?;
+    with_how(alloc, command)
+}
+
 fn command<'a>(alloc: Global) -> Result<Command<'a>, AllocError> {
     Command::new(alloc, "svncopy")
         .about(ABOUT)
@@ -150,7 +251,9 @@ fn command<'a>(alloc: Global) -> Result<Command<'a>, AllocError> {
         .disable_help_subcommand(true)
         .subcommand(checkout_command(alloc)?)?
         .subcommand(mend_command(alloc)?)?
-        .subcommand(resume_command(alloc)?)
+        .subcommand(resume_command(alloc)?)?
+        .subcommand(update_command(alloc)?)?
+        .subcommand(switch_command(alloc)?)
 }
 
 fn checkout_of<'a>(matches: &ArgMatches<'a>) -> Checkout<'a> {
@@ -182,6 +285,54 @@ fn mend_of<'a>(alloc: Global, matches: &ArgMatches<'a>) -> Result<Mend<'a>, Allo
     })
 }
 
+// The number that a word is; the word where it is none. None where it isn't given.
+fn number_of<'a>(matches: &ArgMatches<'a>, id: &str) -> Result<Option<u64>, &'a str> {
+    let Some(word) = matches.get_str(id) else {
+        return Ok(None);
+    };
+    match word.parse::<u64>() {
+        Ok(number) => Ok(Some(number)),
+        Err(_) => Err(word),
+    }
+}
+
+fn rev_of<'a>(matches: &ArgMatches<'a>) -> Result<Option<Rev>, &'a str> {
+    match number_of(matches, "rev")? {
+        Some(number) => Ok(Some(Rev(number))),
+        None => Ok(None),
+    }
+}
+
+fn update_of<'a>(matches: &ArgMatches<'a>) -> Result<UpdateWords<'a>, &'a str> {
+    Ok(UpdateWords {
+        dump: matches.get_str("dump").unwrap_or("-"),
+        folder: matches.get_str("folder").unwrap_or("."),
+        rev: rev_of(matches)?,
+        limit: number_of(matches, "limit")?,
+        late_texts: matches.get_flag("late-texts"),
+        dry_run: matches.get_flag("dry-run"),
+        progress: matches.get_flag("progress"),
+        no_sync: matches.get_flag("no-sync"),
+    })
+}
+
+fn update_request<'a>(matches: &ArgMatches<'a>) -> Request<'a> {
+    match update_of(matches) {
+        Ok(update) => Request::Update(update),
+        Err(word) => Request::BadNumber(word),
+    }
+}
+
+fn switch_request<'a>(matches: &ArgMatches<'a>) -> Request<'a> {
+    match update_of(matches) {
+        Ok(how) => Request::Switch(Switch {
+            url: matches.get_str("url").unwrap_or(""),
+            how,
+        }),
+        Err(word) => Request::BadNumber(word),
+    }
+}
+
 /// What the words of a call ask for. The first is the program's name.
 pub(crate) fn request_of<'a>(alloc: Global, words: &'a [&'a str]) -> Result<Request<'a>, Error> {
     let matches = command(alloc)?.try_get_matches_from(words)?;
@@ -195,6 +346,8 @@ pub(crate) fn request_of<'a>(alloc: Global, words: &'a [&'a str]) -> Result<Requ
             folders: folders_of(alloc, words)?,
             no_sync: words.get_flag("no-sync"),
         }),
+        "update" => update_request(words),
+        "switch" => switch_request(words),
         _ => Request::Checkout(checkout_of(words)),
     })
 }

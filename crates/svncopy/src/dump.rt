@@ -1,14 +1,17 @@
-//! A dump: read once for its history, and at the places of those texts that a copy has, so that no text is in memory as a whole.
+//! A dump: read once for its history, and at the places of those texts that a copy has, so that no text is in memory as a whole. One of deltas is
+//! expanded first.
 
+use crate::expansion::{Expansion, may_have_deltas, open_expansion};
 use crate::fault::Fault;
 use std::alloc::{AllocError, Global};
 use std::fs::{File, OpenOptions};
-use std::io::{Read, Seek, SeekFrom};
+use std::io::{Read, Seek, SeekFrom, Write};
 use std::os::unix::fs::OpenOptionsExt;
 use std::rt::Files;
 use std::{fs, io};
 use svn_disk::{Source, TextSums};
 use svn_dump::{DumpIndex, Limits, Reader, Texts};
+use svn_expand::Origins;
 use svn_folder::Pieces;
 use svn_history::{LoadListener, Loader, last_change};
 use svn_repo::Repo;
@@ -23,6 +26,8 @@ const PIECE: u64 = 65536;
 pub(crate) struct Dump<R> {
     history: R,
     texts: R,
+    // Where its expansion goes, if it has deltas.
+    expansion: Option<Expansion<R>>,
 }
 
 /// The history of a dump.
@@ -50,6 +55,7 @@ fn open_twice<T: Files>(rt: &T, path: &str) -> io::Result<Dump<T::File>> {
     Ok(Dump {
         history: File::open(rt, path)?,
         texts: File::open(rt, path)?,
+        expansion: None,
     })
 }
 
@@ -67,8 +73,8 @@ fn keep_input<T: Files + Input + AllocGlobal>(rt: &T, path: &str) -> io::Result<
     dump
 }
 
-/// Opens a dump. Standard input is kept in a file beside the folder of the copy, as large as the dump.
-pub(crate) fn open<T: Files + Input + AllocGlobal>(
+// Opens a dump, of whole texts or of deltas.
+fn open_given<T: Files + Input + AllocGlobal>(
     rt: &T,
     dump: &str,
     folder: &str,
@@ -79,12 +85,26 @@ pub(crate) fn open<T: Files + Input + AllocGlobal>(
             Err(error) => Err(Fault::Unread(error)),
         };
     }
-    let folder = folder.trim_end_matches('/');
     let path = format!(in rt.alloc(); "{folder}.svncopy-dump")?;
     match keep_input(rt, &path) {
         Ok(dump) => Ok(dump),
         Err(error) => Err(Fault::Kept { path, error }),
     }
+}
+
+/// Opens a dump. Standard input is kept in a file beside the folder of the copy, as large as the dump; one of deltas needs another file there, in which
+/// each text is whole.
+pub(crate) fn open<T: Files + Input + AllocGlobal>(
+    rt: &T,
+    dump: &str,
+    folder: &str,
+) -> Result<Dump<T::File>, Fault> {
+    let folder = folder.trim_end_matches('/');
+    let mut dump = open_given(rt, dump, folder)?;
+    if may_have_deltas(&mut dump.texts) {
+        dump.expansion = Some(open_expansion(rt, folder)?);
+    }
+    Ok(dump)
 }
 
 // The history that a loader has.
@@ -100,27 +120,52 @@ fn history_of<R: Read + Drop>(alloc: Global, loader: Loader<R>) -> Result<Histor
     }
 }
 
-impl<R: Read + Drop> Dump<R> {
+// Loads a history from what was opened twice.
+fn load_whole<R: Read + Drop, L: LoadListener>(
+    alloc: Global,
+    input: R,
+    origins: Option<&Origins>,
+    listener: &mut L,
+) -> Result<History, Fault> {
+    let reader = match Reader::new(alloc, input, Limits::default(), Texts::Sha1) {
+        Ok(reader) => reader.with_index(),
+        Err(fault) => return Err(Fault::Front(fault)),
+    };
+    let Ok(repo) = Repo::new(alloc) else {
+        return Err(Fault::Memory);
+    };
+    let mut loader = Loader::new(alloc, reader, repo);
+    if let Err(fault) = loader.load_all_with(listener) {
+        let begun = loader.records().begun();
+        let byte = match origins {
+            Some(origins) => origins.origin_of(begun),
+            None => begun,
+        };
+        return Err(Fault::Dump { byte, fault });
+    }
+    history_of(alloc, loader)
+}
+
+impl<R: Read + Write + Seek + Drop> Dump<R> {
     /// Its history, and the file of its texts.
     pub(crate) fn load<L: LoadListener>(
         self,
         alloc: Global,
         listener: &mut L,
     ) -> Result<(History, R), Fault> {
-        let Dump { history, texts } = self;
-        let reader = match Reader::new(alloc, history, Limits::default(), Texts::Sha1) {
-            Ok(reader) => reader.with_index(),
-            Err(fault) => return Err(Fault::Front(fault)),
+        let Dump {
+            history,
+            texts,
+            expansion,
+        } = self;
+        let Some(expansion) = expansion else {
+            let history = load_whole(alloc, history, None, listener)?;
+            return Ok((history, texts));
         };
-        let Ok(repo) = Repo::new(alloc) else {
-            return Err(Fault::Memory);
-        };
-        let mut loader = Loader::new(alloc, reader, repo);
-        if let Err(fault) = loader.load_all_with(listener) {
-            let byte = loader.records().begun();
-            return Err(Fault::Dump { byte, fault });
-        }
-        Ok((history_of(alloc, loader)?, texts))
+        drop(texts);
+        let expanded = expansion.expand(alloc, history, listener)?;
+        let history = load_whole(alloc, expanded.history, Some(&expanded.origins), listener)?;
+        Ok((history, expanded.texts))
     }
 }
 

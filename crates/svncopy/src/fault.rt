@@ -3,8 +3,11 @@
 use std::alloc::{AllocError, AllocFailed};
 use std::io;
 use svn_disk::DiskFault;
+use svn_disk_update::UpdateFault;
 use svn_dump::DumpFault;
+use svn_expand::ExpandFault;
 use svn_history::LoadFault;
+use svn_types::PathFault;
 use svn_wc::WcFault;
 use thiserror::Error;
 
@@ -36,6 +39,14 @@ pub(crate) enum Fault {
         /// Why it is.
         fault: LoadFault,
     },
+    /// The dump can't be expanded: where, and why.
+    #[error("byte {byte}: {fault}")]
+    Deltas {
+        /// So many bytes are before the record that is refused.
+        byte: u64,
+        /// Why it is.
+        fault: ExpandFault,
+    },
     /// The dump gives no UUID.
     #[error("the dump has no UUID")]
     NoUuid,
@@ -51,9 +62,21 @@ pub(crate) enum Fault {
     /// The revision has no directory at the path.
     #[error("{0}")]
     NoDirectory(WcFault),
-    /// The folder can't be made.
+    /// The folder can't be made, or isn't there.
     #[error("{0}")]
     NoFolder(io::Error),
+    /// What is named isn't in a working copy.
+    #[error("no working copy")]
+    NoCopy,
+    /// What is named in a working copy has a path that none may have.
+    #[error("{0}")]
+    BadPath(PathFault),
+    /// A word is no number.
+    #[error("not a number")]
+    BadNumber,
+    /// The copy isn't updated.
+    #[error("{0}")]
+    Update(UpdateFault),
     /// The clock can't be read.
     #[error("the clock: {0}")]
     Clock(io::Error),
@@ -76,16 +99,22 @@ impl Fault {
             | Fault::Kept { .. }
             | Fault::Front(_)
             | Fault::Dump { .. }
+            | Fault::Deltas { .. }
             | Fault::NoUuid
-            | Fault::NoRevision(_, _) => dump,
+            | Fault::NoRevision(_, _)
+            | Fault::Update(UpdateFault::NoRevision(_, _)) => dump,
             Fault::OtherRoot
             | Fault::BadUrl
             | Fault::NoDirectory(_)
             | Fault::Disk(DiskFault::Reserved(_)) => url,
             Fault::Words(_)
             | Fault::NoFolder(_)
+            | Fault::NoCopy
+            | Fault::BadPath(_)
+            | Fault::BadNumber
             | Fault::Clock(_)
             | Fault::Disk(_)
+            | Fault::Update(_)
             | Fault::Write
             | Fault::Memory => folder,
         }
@@ -101,6 +130,16 @@ impl From<AllocError> for Fault {
 impl<T: Drop> From<AllocFailed<T>> for Fault {
     fn from(_error: AllocFailed<T>) -> Fault {
         Fault::Memory
+    }
+}
+
+impl From<UpdateFault> for Fault {
+    fn from(fault: UpdateFault) -> Fault {
+        match fault {
+            UpdateFault::Memory => Fault::Memory,
+            UpdateFault::Disk(fault) => Fault::from(fault),
+            fault => Fault::Update(fault),
+        }
     }
 }
 

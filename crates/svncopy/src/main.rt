@@ -1,4 +1,4 @@
-//! `svncopy`: makes working copies of Subversion from a dump of a repository, and puts them right.
+//! `svncopy`: makes working copies of Subversion from a dump of a repository, updates them, and puts them right.
 //! `docs/COPY.md` is the manual.
 #![tactic(auto)]
 
@@ -6,24 +6,30 @@ mod checkout;
 mod clock;
 mod command_line;
 mod dump;
+mod expansion;
 mod fault;
+mod lines;
 mod mend;
 mod progress;
 mod refusing;
 mod resume;
+mod root;
+mod update;
 mod url;
 
 use crate::checkout::make;
-use crate::command_line::{Request, Resume, request_of};
+use crate::command_line::{Request, Resume, UpdateWords, request_of};
 use crate::fault::Fault;
 use crate::mend::mend_all;
 use crate::refusing::{REFUSED, refuse};
 use crate::resume::complete;
+use crate::update::{switch_copy, update_copy};
 use std::env;
 use std::env::Env;
 use std::fs::File;
 use std::process::ExitCode;
 use std::rt::{Clock, Files};
+use std::sync::Wait;
 use std::thread::Threads;
 
 // The words of the command line; the first is the program's name.
@@ -52,10 +58,22 @@ fn complete_all<T: Files<File = File> + Threads + Print + Eprint + AllocGlobal>(
     status
 }
 
-fn answer<T: Files<File = File> + Threads + Input + Print + Eprint + Clock + AllocGlobal>(
+// The status of an update, or of a switch.
+fn status_of<T: Eprint>(
     rt: &T,
-    request: &Request<'_>,
+    words: &UpdateWords<'_>,
+    url: &str,
+    done: Result<(), Fault>,
 ) -> ExitCode {
+    match done {
+        Ok(()) => ExitCode::SUCCESS,
+        Err(fault) => refuse(rt, fault.subject(words.dump, url, words.folder), &fault),
+    }
+}
+
+fn answer<
+    T: Files<File = File> + Threads + Wait + Sync + Input + Print + Eprint + Clock + AllocGlobal,
+>(rt: &T, request: &Request<'_>) -> ExitCode {
     match request {
         Request::Checkout(words) => match make(rt, words) {
             Ok(()) => ExitCode::SUCCESS,
@@ -69,13 +87,15 @@ fn answer<T: Files<File = File> + Threads + Input + Print + Eprint + Clock + All
             Err(fault) => refuse(rt, fault.subject(words.dump, "", "mend"), &fault),
         },
         Request::Resume(words) => complete_all(rt, words),
+        Request::Update(words) => status_of(rt, words, words.folder, update_copy(rt, words)),
+        Request::Switch(words) => status_of(rt, &words.how, words.url, switch_copy(rt, words)),
+        Request::BadNumber(word) => refuse(rt, word, &Fault::BadNumber),
     }
 }
 
-fn run<T: Files<File = File> + Threads + Input + Print + Eprint + Clock + AllocGlobal>(
-    rt: &T,
-    words: &[String],
-) -> ExitCode {
+fn run<
+    T: Files<File = File> + Threads + Wait + Sync + Input + Print + Eprint + Clock + AllocGlobal,
+>(rt: &T, words: &[String]) -> ExitCode {
     let mut texts = Vec::new(rt.alloc());
     for word in words {
         if texts.push(word.as_str()).is_err() {

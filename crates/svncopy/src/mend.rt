@@ -22,7 +22,7 @@ fn word_of(change: Change) -> &'static str {
         Change::Removed => "removed",
         Change::Replaced => "replaced",
         Change::Rewritten => "written anew",
-        Change::Recorded => "recorded anew",
+        Change::Recorded | Change::Bumped => "recorded anew",
         Change::Restored => "made again",
     }
 }

@@ -1,4 +1,4 @@
-//! The URL of a checkout: the repository's root, the path in it, and the revision.
+//! The URLs of a checkout and of a switch: the repository's root, the path in it, and the revision.
 
 use crate::command_line::Checkout;
 use crate::fault::Fault;
@@ -74,4 +74,24 @@ pub(crate) fn address_of<'a>(alloc: Global, words: &Checkout<'a>) -> Result<Addr
     };
     let path = path_of(alloc, below(url, root)?)?;
     Ok(Address { root, path, rev })
+}
+
+/// Reads where a switch leads, of a copy whose repository has this URL: the path in the repository, and the revision, if one is given.
+pub(crate) fn switched_to(
+    alloc: Global,
+    url: &str,
+    root: &[u8],
+) -> Result<(RelPath, Option<Rev>), Fault> {
+    let (url, rev) = split_rev(url)?;
+    let url = trimmed(url);
+    if url == "^" {
+        return Ok((RelPath::root(alloc), rev));
+    }
+    if let Some(path) = url.strip_prefix("^/") {
+        return Ok((path_of(alloc, path)?, rev));
+    }
+    let Ok(root) = str::from_utf8(root) else {
+        return Err(Fault::OtherRoot);
+    };
+    Ok((path_of(alloc, below(url, trimmed(root))?)?, rev))
 }

@@ -24,8 +24,8 @@ const FILES: [(&str, &str, &str); 5] = [
     ("link", "link a", "svn:special"),
 ];
 
-/// Their texts, and those of the copies that are put right.
-pub(crate) const TEXTS: [&str; 15] = [
+/// Their texts, and those of the copies that are put right or updated.
+pub(crate) const TEXTS: [&str; 16] = [
     "first\n",
     "second\n",
     "",
@@ -41,6 +41,7 @@ pub(crate) const TEXTS: [&str; 15] = [
     "new text\n",
     "in kind\n",
     "link text",
+    "text of the branch\n",
 ];
 
 /// A folder in memory that stops, and knows what of it is on the disk.

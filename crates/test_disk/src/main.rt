@@ -1,7 +1,9 @@
 //! Working copies that are brought to disk: each stop of a checkout and of its completion, by the program's end and by a loss of power; each stop of a false
-//! copy's being put right; what the folder has at the end; what is refused. The folder is one in memory, whose crashes are those of `svn_folder`.
+//! copy's being put right, and of an update; what the folder has at the end; what is refused. The folder is one in memory, whose crashes are those of
+//! `svn_folder`.
 #![tactic(auto)]
 
+mod between;
 mod copies;
 mod histories;
 mod mend_refusals;
@@ -10,6 +12,8 @@ mod opaque;
 mod refusals;
 mod replay;
 mod stops;
+mod update_rows;
+mod updates;
 
 use anyhow::Result;
 use copies::{copy, empty, inner, make};
@@ -18,9 +22,13 @@ use mends::{Falsehood, try_lost_mends, try_stopped_mends};
 use refusals::try_refusals;
 use std::alloc::Global;
 use std::process::ExitCode;
+use std::sync::Wait;
+use std::thread::Threads;
 use stops::{try_losses, try_resumes, try_stops};
 use svn_folder::MemoryFolder;
 use svn_wc::WorkingCopy;
+use update_rows::try_rows;
+use updates::{Advance, try_limits, try_lost_updates, try_stopped_updates};
 
 // A folder with the whole copy.
 fn whole(alloc: Global, copy: &WorkingCopy) -> Result<MemoryFolder> {
@@ -29,7 +37,16 @@ fn whole(alloc: Global, copy: &WorkingCopy) -> Result<MemoryFolder> {
     Ok(inner(folder))
 }
 
-fn try_all<R: Print + AllocGlobal>(rt: &R) -> Result<()> {
+// Updates, and what is refused of them.
+fn try_updates<R: Print + Threads + Wait + Sync + AllocGlobal>(rt: &R) -> Result<()> {
+    let advance = Advance::new(rt)?;
+    try_stopped_updates(rt, &advance)?;
+    try_lost_updates(rt, &advance)?;
+    try_limits(rt, &advance)?;
+    try_rows(rt, &advance)
+}
+
+fn try_copies<R: Print + AllocGlobal>(rt: &R) -> Result<()> {
     let alloc = rt.alloc();
     let copy = copy(alloc, 5)?;
     let whole = whole(alloc, &copy)?;
@@ -42,6 +59,11 @@ fn try_all<R: Print + AllocGlobal>(rt: &R) -> Result<()> {
     try_stopped_mends(rt, &falsehood)?;
     try_lost_mends(rt, &falsehood)?;
     try_mend_refusals(rt, &falsehood)
+}
+
+fn try_all<R: Print + Threads + Wait + Sync + AllocGlobal>(rt: &R) -> Result<()> {
+    try_copies(rt)?;
+    try_updates(rt)
 }
 
 fn main(rt: HostRuntime) -> ExitCode {

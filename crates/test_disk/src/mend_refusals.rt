@@ -1,15 +1,16 @@
 //! What keeps a false copy from being put right, and what would be done with one.
 
+use crate::between::{Left, opened};
 use crate::copies::{Known, TEXTS};
-use crate::mends::{Falsehood, Left, opened, what};
+use crate::mends::{Falsehood, what};
 use anyhow::Result;
 use std::alloc::Global;
 use svn_disk::{Remedy, mend, mend_changes};
 use svn_folder::{Entry, Folder, Mode, Step};
 use svn_types::{RelPath, Text};
 
-// What is done on disk before: a path, and a file's text that comes there, a link's target after `>`, or nothing, which makes a directory.
-type Edit = (&'static str, &'static str);
+/// What is done on disk before: a path, and a file's text that comes there, a link's target after `>`, or nothing, which makes a directory.
+pub(crate) type Edit = (&'static str, &'static str);
 
 /// What is on disk in place of what the copy has there, and in the way.
 const EDITS: [Edit; 11] = [
@@ -37,8 +38,8 @@ fn entry_of(alloc: Global, text: &str) -> Result<Entry> {
     })
 }
 
-// Puts something to a path, in place of a file that is there.
-fn put_edit(alloc: Global, folder: &mut Left, edit: &Edit) -> Result<()> {
+/// Puts something to a path, in place of a file that is there.
+pub(crate) fn put_edit(alloc: Global, folder: &mut Left, edit: &Edit) -> Result<()> {
     let (path, text) = edit;
     let path = RelPath::parse(alloc, path)?;
     if folder.look(alloc, &path)?.is_some() {
@@ -63,7 +64,7 @@ fn said(alloc: Global, folder: &mut Left, what: &Remedy<'_>) -> Result<String> {
 
 fn try_edit<R: Print + AllocGlobal>(rt: &R, all: &Falsehood, row: &Edit) -> Result<()> {
     let alloc = rt.alloc();
-    let mut folder = opened(alloc, all.stopped(alloc, 0)?);
+    let mut folder = opened(alloc, all.between.stopped(alloc, 0)?);
     put_edit(alloc, &mut folder, row)?;
     let before = folder.folder.0.steps().len();
     let said = said(alloc, &mut folder, &what(&all.repo))?;
@@ -79,7 +80,7 @@ fn try_edit<R: Print + AllocGlobal>(rt: &R, all: &Falsehood, row: &Edit) -> Resu
 // By another repository, and of a copy that is true.
 fn try_others<R: Print + AllocGlobal>(rt: &R, all: &Falsehood) -> Result<()> {
     let alloc = rt.alloc();
-    let mut folder = opened(alloc, all.stopped(alloc, 0)?);
+    let mut folder = opened(alloc, all.between.stopped(alloc, 0)?);
     let other = Remedy {
         uuid: b"another",
         ..what(&all.repo)
@@ -96,7 +97,7 @@ fn try_others<R: Print + AllocGlobal>(rt: &R, all: &Falsehood) -> Result<()> {
 // What would be done.
 fn try_changes<R: Print + AllocGlobal>(rt: &R, all: &Falsehood) -> Result<()> {
     let alloc = rt.alloc();
-    let folder = opened(alloc, all.stopped(alloc, 0)?);
+    let folder = opened(alloc, all.between.stopped(alloc, 0)?);
     for change in &mend_changes(alloc, &folder, &what(&all.repo))? {
         println!(rt; "would be mended: {}: {:?}", change.path, change.change)?;
     }

@@ -18,7 +18,7 @@ use svn_folder::{
 };
 use svn_types::RelPath;
 use tables::{
-    ACTS, Act, CARELESS, LOST, MOVED, PATHS, REFUSED, RENAMED, REPLACED, SYNCED, UNSYNCED, step_of,
+    Act, acts, careless, lost, moved, paths, refused, renamed, replaced, step_of, synced, unsynced,
 };
 
 // The folder of the system that is tried, where the program runs.
@@ -92,7 +92,7 @@ pub(crate) fn compare<F: Folder, G: Folder>(
     other: &G,
     words: &str,
 ) -> Result<()> {
-    for path in PATHS {
+    for path in paths() {
         compare_at(alloc, one, other, path, words)?;
     }
     Ok(())
@@ -127,8 +127,8 @@ fn tried<R: Files<File = File> + Threads + AllocGlobal>(rt: &R) -> Result<DiskFo
 fn try_both<R: Files<File = File> + Threads + Print + AllocGlobal>(rt: &R) -> Result<()> {
     let mut memory = MemoryFolder::new(rt.alloc());
     let mut disk = SyncedFolder::new(rt.alloc(), tried(rt)?);
-    for act in ACTS {
-        take_both(rt, &mut memory, &mut disk, act)?;
+    for act in acts() {
+        take_both(rt, &mut memory, &mut disk, *act)?;
     }
     let mut disk = SyncedFolder::new(rt.alloc(), tried(rt)?);
     do_all(rt, &mut disk)?;
@@ -150,8 +150,8 @@ fn stop<R: Print + AllocGlobal>(rt: &R, limit: u64) -> Result<()> {
     let alloc = rt.alloc();
     let mut folder = StoppedFolder::new(MemoryFolder::new(alloc), limit);
     let mut refused = 0u64;
-    for act in REPLACED {
-        let (taken, _) = told(alloc, &mut folder, act)?;
+    for act in replaced() {
+        let (taken, _) = told(alloc, &mut folder, *act)?;
         if !taken {
             refused = refused.saturating_add(1);
         }
@@ -237,14 +237,14 @@ fn main(rt: HostRuntime) -> Result<()> {
     for limit in 0..=6 {
         stop(&rt, limit)?;
     }
-    crash_in(&rt, &REPLACED, ("f", "t"))?;
-    crash_in(&rt, &CARELESS, ("f", "t"))?;
-    crash_in(&rt, &MOVED, ("f/x", "t/x"))?;
-    keep_in(&rt, &SYNCED)?;
-    keep_in(&rt, &LOST)?;
-    do_and_finish(&rt, &UNSYNCED)?;
-    do_and_finish(&rt, &REFUSED)?;
-    do_and_finish(&rt, &RENAMED)?;
+    crash_in(&rt, replaced(), ("f", "t"))?;
+    crash_in(&rt, careless(), ("f", "t"))?;
+    crash_in(&rt, moved(), ("f/x", "t/x"))?;
+    keep_in(&rt, synced())?;
+    keep_in(&rt, lost())?;
+    do_and_finish(&rt, unsynced())?;
+    do_and_finish(&rt, refused())?;
+    do_and_finish(&rt, renamed())?;
     for limit in 2..=4 {
         stop_between(&rt, limit)?;
     }

@@ -1,6 +1,6 @@
 //! Files in pieces, copies of files, and several syncs at once.
 
-use crate::tables::{Act, DEEDS, Deed, MANY, step_of};
+use crate::tables::{Act, Deed, MANY, deeds, step_of};
 use crate::{compare, left_words};
 use anyhow::{Result, bail};
 use std::alloc::Global;
@@ -90,8 +90,8 @@ pub(crate) fn do_all<R: Print + AllocGlobal, G: Folder>(
     disk: &mut SyncedFolder<G>,
 ) -> Result<()> {
     let mut memory = MemoryFolder::new(rt.alloc());
-    for deed in DEEDS {
-        do_both(rt, &mut memory, disk, deed)?;
+    for deed in deeds() {
+        do_both(rt, &mut memory, disk, *deed)?;
     }
     finish(rt, disk)
 }

@@ -21,8 +21,7 @@ pub(crate) enum Act {
     RemoveDirectory(&'static str),
 }
 
-/// Each step, taken and refused in each way.
-pub(crate) const ACTS: [Act; 35] = [
+static ACTS: [Act; 35] = [
     Act::Directory("a"),
     Act::Directory("a"),
     Act::Directory("b/c"),
@@ -60,13 +59,21 @@ pub(crate) const ACTS: [Act; 35] = [
     Act::RemoveDirectory("b"),
 ];
 
-/// The paths that are looked at after each step.
-pub(crate) const PATHS: [&str; 13] = [
+/// Each step, taken and refused in each way.
+pub(crate) fn acts() -> &'static [Act] {
+    &ACTS
+}
+
+static PATHS: [&str; 13] = [
     "", "a", "a/f", "a/run", "a/fixed", "a/l", "l", "new", "b", "b/f", "b/fixed", "b/l", "d",
 ];
 
-/// A new text of a file: it is written beside the old one, and takes its place.
-pub(crate) const REPLACED: [Act; 6] = [
+/// The paths that are looked at after each step.
+pub(crate) fn paths() -> &'static [&'static str] {
+    &PATHS
+}
+
+static REPLACED: [Act; 6] = [
     Act::File("f", "old"),
     Act::SyncFile("f"),
     Act::File("t", "new"),
@@ -75,8 +82,12 @@ pub(crate) const REPLACED: [Act; 6] = [
     Act::SyncDirectory(""),
 ];
 
-/// The same without a sync of the new text.
-pub(crate) const CARELESS: [Act; 5] = [
+/// A new text of a file: it is written beside the old one, and takes its place.
+pub(crate) fn replaced() -> &'static [Act] {
+    &REPLACED
+}
+
+static CARELESS: [Act; 5] = [
     Act::File("f", "old"),
     Act::SyncFile("f"),
     Act::SyncDirectory(""),
@@ -84,8 +95,12 @@ pub(crate) const CARELESS: [Act; 5] = [
     Act::Rename("t", "f"),
 ];
 
-/// A directory that is made under another name, without a sync of what is in it.
-pub(crate) const MOVED: [Act; 5] = [
+/// The same without a sync of the new text.
+pub(crate) fn careless() -> &'static [Act] {
+    &CARELESS
+}
+
+static MOVED: [Act; 5] = [
     Act::Directory("t"),
     Act::File("t/x", "text"),
     Act::SyncDirectory("t"),
@@ -93,8 +108,12 @@ pub(crate) const MOVED: [Act; 5] = [
     Act::RemoveFile("f/x"),
 ];
 
-/// Names and bytes that are synced, some too early, and a directory that is renamed once all is on the disk, and before.
-pub(crate) const SYNCED: [Act; 21] = [
+/// A directory that is made under another name, without a sync of what is in it.
+pub(crate) fn moved() -> &'static [Act] {
+    &MOVED
+}
+
+static SYNCED: [Act; 21] = [
     Act::Directory("a"),
     Act::File("a/f", "text"),
     Act::SyncFile("a/f"),
@@ -118,14 +137,23 @@ pub(crate) const SYNCED: [Act; 21] = [
     Act::Directory("l"),
 ];
 
-/// A directory is renamed before what is in it is on the disk.
-pub(crate) const LOST: [Act; 5] = [
+/// Names and bytes that are synced, some too early, and a directory that is renamed once all is on the disk, and before.
+pub(crate) fn synced() -> &'static [Act] {
+    &SYNCED
+}
+
+static LOST: [Act; 5] = [
     Act::Directory("t"),
     Act::SyncDirectory("t"),
     Act::RenameDirectory("t", "f"),
     Act::SyncDirectory("f"),
     Act::SyncDirectory(""),
 ];
+
+/// A directory is renamed before what is in it is on the disk.
+pub(crate) fn lost() -> &'static [Act] {
+    &LOST
+}
 
 /// What takes no step, one, or several.
 #[derive(Clone, Copy)]
@@ -148,8 +176,7 @@ impl fmt::Display for Deed {
     }
 }
 
-/// Files in pieces, copies and syncs, done and refused in each way.
-pub(crate) const DEEDS: [Deed; 14] = [
+static DEEDS: [Deed; 14] = [
     Deed::Step(Act::Directory("a")),
     Deed::Pieces("a/f", "a text in pieces"),
     Deed::Pieces("a/f", "again"),
@@ -166,8 +193,12 @@ pub(crate) const DEEDS: [Deed; 14] = [
     Deed::Step(Act::File("d", "")),
 ];
 
-/// Files and directories that aren't on the disk.
-pub(crate) const UNSYNCED: [Deed; 6] = [
+/// Files in pieces, copies and syncs, done and refused in each way.
+pub(crate) fn deeds() -> &'static [Deed] {
+    &DEEDS
+}
+
+static UNSYNCED: [Deed; 6] = [
     Deed::Step(Act::Directory("a")),
     Deed::Step(Act::Directory("a/b")),
     Deed::Pieces("a/b/f", "a text"),
@@ -176,14 +207,27 @@ pub(crate) const UNSYNCED: [Deed; 6] = [
     Deed::Step(Act::Link("a/b/l", "f")),
 ];
 
-/// A copy that is refused, so that the file that it would have made isn't there.
-pub(crate) const REFUSED: [Deed; 2] = [Deed::Pieces("f", "text"), Deed::Copy("g", "h")];
+/// Files and directories that aren't on the disk.
+pub(crate) fn unsynced() -> &'static [Deed] {
+    &UNSYNCED
+}
 
-/// A directory is renamed before all is on the disk.
-pub(crate) const RENAMED: [Deed; 2] = [
+static REFUSED: [Deed; 2] = [Deed::Pieces("f", "text"), Deed::Copy("g", "h")];
+
+/// A copy that is refused, so that the file that it would have made isn't there.
+pub(crate) fn refused() -> &'static [Deed] {
+    &REFUSED
+}
+
+static RENAMED: [Deed; 2] = [
     Deed::Step(Act::Directory("a")),
     Deed::Step(Act::RenameDirectory("a", "b")),
 ];
+
+/// A directory is renamed before all is on the disk.
+pub(crate) fn renamed() -> &'static [Deed] {
+    &RENAMED
+}
 
 /// So many files are made.
 pub(crate) const MANY: u64 = 40;
@@ -196,37 +240,66 @@ fn make(path: RelPath, entry: Entry) -> Step {
     }
 }
 
-fn file(alloc: Global, path: &str, text: &str, mode: Mode) -> Result<Step, FolderFault> {
-    let path = RelPath::parse(alloc, path)?;
-    Ok(make(path, Entry::File(Text::from_str(alloc, text)?, mode)))
+fn file(alloc: Global, path: RelPath, text: &str, mode: Mode) -> Result<Step, FolderFault> {
+    let text = Text::from_str(alloc, text)?;
+    Ok(make(path, Entry::File(text, mode)))
 }
 
-fn link(alloc: Global, path: &str, target: &str) -> Result<Step, FolderFault> {
-    let path = RelPath::parse(alloc, path)?;
-    Ok(make(path, Entry::Link(Text::from_str(alloc, target)?)))
+fn link(alloc: Global, path: RelPath, target: &str) -> Result<Step, FolderFault> {
+    let target = Text::from_str(alloc, target)?;
+    Ok(make(path, Entry::Link(target)))
+}
+
+fn rename(alloc: Global, from: RelPath, to: &str) -> Result<Step, FolderFault> {
+    let to = RelPath::parse(alloc, to)?;
+    Ok(Step::Rename { from, to })
+}
+
+fn rename_directory(alloc: Global, from: &str, to: &str) -> Result<Step, FolderFault> {
+    let from = Name::parse(alloc, from)?;
+    let to = Name::parse(alloc, to)?;
+    Ok(Step::RenameDirectory { from, to })
+}
+
+// The step that a path is all of.
+fn step_at(path: RelPath, act: Act) -> Step {
+    match act {
+        Act::SyncFile(_) => Step::SyncFile(path),
+        Act::SyncDirectory(_) => Step::SyncDirectory(path),
+        Act::RemoveFile(_) => Step::RemoveFile(path),
+        Act::RemoveDirectory(_) => Step::RemoveDirectory(path),
+        _ => make(path, Entry::Directory),
+    }
+}
+
+// The step at a path.
+fn step_with(alloc: Global, path: RelPath, act: Act) -> Result<Step, FolderFault> {
+    match act {
+        Act::File(_, text) => file(alloc, path, text, Mode::PLAIN),
+        Act::Program(_, text) => file(alloc, path, text, PROGRAM),
+        Act::Fixed(_, text) => file(alloc, path, text, FIXED),
+        Act::Link(_, target) => link(alloc, path, target),
+        Act::Rename(_, to) => rename(alloc, path, to),
+        _ => Ok(step_at(path, act)),
+    }
+}
+
+// The path that comes first in a step.
+fn path_of(act: Act) -> &'static str {
+    match act {
+        Act::Directory(path) | Act::SyncFile(path) | Act::SyncDirectory(path) => path,
+        Act::RemoveFile(path) | Act::RemoveDirectory(path) => path,
+        Act::File(path, _) | Act::Program(path, _) | Act::Fixed(path, _) => path,
+        Act::Link(path, _) | Act::Rename(path, _) | Act::RenameDirectory(path, _) => path,
+    }
 }
 
 /// The step.
 pub(crate) fn step_of(alloc: Global, act: Act) -> Result<Step, FolderFault> {
-    Ok(match act {
-        Act::Directory(path) => make(RelPath::parse(alloc, path)?, Entry::Directory),
-        Act::File(path, text) => file(alloc, path, text, Mode::PLAIN)?,
-        Act::Program(path, text) => file(alloc, path, text, PROGRAM)?,
-        Act::Fixed(path, text) => file(alloc, path, text, FIXED)?,
-        Act::Link(path, target) => link(alloc, path, target)?,
-        Act::SyncFile(path) => Step::SyncFile(RelPath::parse(alloc, path)?),
-        Act::SyncDirectory(path) => Step::SyncDirectory(RelPath::parse(alloc, path)?),
-        Act::Rename(from, to) => Step::Rename {
-            from: RelPath::parse(alloc, from)?,
-            to: RelPath::parse(alloc, to)?,
-        },
-        Act::RenameDirectory(from, to) => Step::RenameDirectory {
-            from: Name::parse(alloc, from)?,
-            to: Name::parse(alloc, to)?,
-        },
-        Act::RemoveFile(path) => Step::RemoveFile(RelPath::parse(alloc, path)?),
-        Act::RemoveDirectory(path) => Step::RemoveDirectory(RelPath::parse(alloc, path)?),
-    })
+    if let Act::RenameDirectory(from, to) = act {
+        return rename_directory(alloc, from, to);
+    }
+    step_with(alloc, RelPath::parse(alloc, path_of(act))?, act)
 }
 
 const PROGRAM: Mode = Mode {

@@ -7,6 +7,7 @@
 mod alterations;
 mod bases;
 mod broken;
+mod expanded;
 mod fronts;
 mod history;
 mod lengths;
@@ -64,11 +65,32 @@ fn compare_dump<R: Files + AllocGlobal + Print>(rt: &R, name: &str) -> Result<()
     compare(rt, name, "lines", &lines::lines(alloc, &dump)?)
 }
 
+// Expanded, a dump of deltas is the history that another dump has.
+fn compare_expanded<R: Files + AllocGlobal + Print>(rt: &R, name: &str, other: &str) -> Result<()> {
+    let alloc = rt.alloc();
+    let dump = fs::read(rt, format!(in alloc; "dumps/{name}.dump")?)?;
+    let expanded = expanded::expanded(alloc, &dump);
+    compare(
+        rt,
+        other,
+        "sha1",
+        &history::outcome(alloc, &expanded, Texts::Sha1)?,
+    )?;
+    compare(
+        rt,
+        other,
+        "whole",
+        &history::outcome(alloc, &expanded, Texts::Whole)?,
+    )
+}
+
 fn compare_all<R: Files + AllocGlobal + Print + Clone + Drop>(rt: &R) -> Result<()> {
     for name in &names_of(rt, "dumps", ".dump")? {
         compare_dump(rt, name)?;
     }
-    Ok(())
+    println!(rt; "expanded:")?;
+    compare_expanded(rt, "deltas", "features")?;
+    compare_expanded(rt, "remote", "random")
 }
 
 // What is counted of dumps: the cases that differ.
@@ -84,9 +106,11 @@ enum Count {
     Alterations,
     Many,
     Written,
+    Expanded,
+    Taken,
 }
 
-const COUNTS: [(Count, &str); 10] = [
+const COUNTS: [(Count, &str); 12] = [
     (Count::Cut, "a dump that is cut has the revisions before"),
     (
         Count::Changed,
@@ -112,6 +136,11 @@ const COUNTS: [(Count, &str); 10] = [
         "ten million properties are refused or passed over",
     ),
     (Count::Written, "what was written loads as the same"),
+    (
+        Count::Expanded,
+        "a dump of deltas that is cut is expanded up to there",
+    ),
+    (Count::Taken, "a delta that can't be applied is refused"),
 ];
 
 fn wrong_in(alloc: Global, what: Count, dump: &[u8], deltas: &[u8]) -> Result<usize> {
@@ -126,6 +155,8 @@ fn wrong_in(alloc: Global, what: Count, dump: &[u8], deltas: &[u8]) -> Result<us
         Count::Alterations => alterations::altered_wrongly(alloc),
         Count::Many => many::taken_wrongly(alloc),
         Count::Written => written::loaded_wrongly(alloc),
+        Count::Expanded => Ok(expanded::cut_wrongly(alloc, deltas)),
+        Count::Taken => expanded::taken_wrongly(alloc, deltas),
     }
 }
 

@@ -19,8 +19,8 @@ fn bases() -> &'static [Base] {
     &BASES
 }
 
-// The dump with another digit after a header, if it has it.
-fn with_digit(alloc: Global, dump: &[u8], header: &[u8]) -> Result<Option<Vec<u8>>> {
+/// The dump with another digit after a header, if it has it.
+pub(super) fn with_digit(alloc: Global, dump: &[u8], header: &[u8]) -> Result<Option<Vec<u8>>> {
     let mut changed = Vec::with_capacity(alloc, dump.len())?;
     let mut is_changed = false;
     for (place, byte) in dump.iter().enumerate() {

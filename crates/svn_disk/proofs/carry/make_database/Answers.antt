@@ -3,12 +3,11 @@ use Rattle.svn_wcrows.specs.Copies.{StandsFor}
 use Rattle.svn_folder.specs.declared.entry.Entry.TheVariants.{Directory}
 use Rattle.svn_folder.specs.declared.step.Step.TheVariants.{SyncFile}
 use Rattle.svn_disk.specs.Places.{is_inside, new_database_place}
-use Rattle.svn_disk.specs.Plans.{present_nodes}
-use Rattle.svn_disk.specs.Crashes.{IsSet, IsNoneOrWhole}
+use Rattle.svn_disk.specs.Crashes.{IsSet, IsOneOf}
 use Rattle.svn_disk.proofs.Going.{keeps_more, stops_more, stops_there, goes_more, does_goes}
 use Rattle.svn_disk.proofs.Running.{leads_more, breaks_more, breaks_there, runs_more, one_runs}
 use Rattle.svn_disk.proofs.Whole.{IsMade}
-use Rattle.svn_disk.proofs.Replacing.{removes_inside, makes_inside, removing_leads, removing_breaks, made_leads, made_breaks, set_leads, set_breaks, safe_none}
+use Rattle.svn_disk.proofs.Replacing.{removes_inside, makes_inside, removing_leads, removing_breaks, made_leads, made_breaks, set_leads, set_breaks, both_none}
 use Rattle.svn_disk.proofs.carry.make_database.Goals as goal
 
 -- ---- its steps
@@ -41,36 +40,36 @@ returns-clause-steps g c =
 -- ---- a crash
 
 pub returns-in_err-new-clause-crash : goal.returns-in_err-new-clause-crash
-returns-in_err-new-clause-crash g c = λ sync is copy stands. let stops = safe_none copy (g.F.Folder.past c.args.folder.now) in search rules
+returns-in_err-new-clause-crash g c = λ sync is one two stands. let stops = both_none one two (g.F.Folder.past c.args.folder.now) in search rules
 
 pub returns-in_err-remove_if_any-clause-crash : goal.returns-in_err-remove_if_any-clause-crash
-returns-in_err-remove_if_any-clause-crash g c = λ sync is copy stands.
-    let stops = removing_breaks copy c.in_ok-new.new (c.in_ok-new.ensures ∙ ap new_database_place is) (g.F.Folder.past c.args.folder.now)
+returns-in_err-remove_if_any-clause-crash g c = λ sync is one two stands.
+    let stops = removing_breaks one two c.in_ok-new.new (c.in_ok-new.ensures ∙ ap new_database_place is) (g.F.Folder.past c.args.folder.now)
     (g.F.Folder.past c.remove_if_any.new.folder) c.in_err-remove_if_any.ensures.1 in search rules
 
 pub returns-in_err-clone-clause-crash : goal.returns-in_err-clone-clause-crash
-returns-in_err-clone-clause-crash g c = λ sync is copy stands.
-    let stops = breaks_there (removing_leads copy c.in_ok-new.new (c.in_ok-new.ensures ∙ ap new_database_place is) (g.F.Folder.past c.args.folder.now)
+returns-in_err-clone-clause-crash g c = λ sync is one two stands.
+    let stops = breaks_there (removing_leads one two c.in_ok-new.new (c.in_ok-new.ensures ∙ ap new_database_place is) (g.F.Folder.past c.args.folder.now)
     (g.F.Folder.past c.remove_if_any.new.folder) c.in_ok-remove_if_any.ensures.0) in search rules
 
 pub returns-in_err-make-clause-crash : goal.returns-in_err-make-clause-crash
-returns-in_err-make-clause-crash g c = λ sync is copy stands.
-    let stops = breaks_more (removing_leads copy c.in_ok-new.new (c.in_ok-new.ensures ∙ ap new_database_place is) (g.F.Folder.past c.args.folder.now)
+returns-in_err-make-clause-crash g c = λ sync is one two stands.
+    let stops = breaks_more (removing_leads one two c.in_ok-new.new (c.in_ok-new.ensures ∙ ap new_database_place is) (g.F.Folder.past c.args.folder.now)
     (g.F.Folder.past c.remove_if_any.new.folder) c.in_ok-remove_if_any.ensures.0)
-    (made_breaks copy c.in_ok-clone.field-0 (c.in_ok-clone.ensures.cases ∙ c.in_ok-new.ensures ∙ ap new_database_place is)
+    (made_breaks one two c.in_ok-clone.field-0 (c.in_ok-clone.ensures.cases ∙ c.in_ok-new.ensures ∙ ap new_database_place is)
     (g.F.Folder.past c.remove_if_any.new.folder) (g.F.Folder.past c.make.new.folder) c.new.result _
-    (subst (λ (b : List ℕ). StandsFor (present_nodes copy) b) (sym c.new.ensures) stands) c.in_err-make.ensures.one.1) in search rules
+    (subst (λ (b : List ℕ). StandsFor two b) (sym c.new.ensures) stands) c.in_err-make.ensures.one.1) in search rules
 
 pub returns-clause-crash : goal.returns-clause-crash
-returns-clause-crash g c = λ sync is copy stands.
-    runs_more (IsSet copy) (g.F.Folder.past c.take_if.new.folder) c.take_if.result
-    (leads_more (removing_leads copy c.in_ok-new.new (c.in_ok-new.ensures ∙ ap new_database_place is) (g.F.Folder.past c.args.folder.now)
+returns-clause-crash g c = λ sync is one two stands.
+    runs_more (IsSet one two) (g.F.Folder.past c.take_if.new.folder) c.take_if.result
+    (leads_more (removing_leads one two c.in_ok-new.new (c.in_ok-new.ensures ∙ ap new_database_place is) (g.F.Folder.past c.args.folder.now)
     (g.F.Folder.past c.remove_if_any.new.folder) c.in_ok-remove_if_any.ensures.0)
-    (made_leads copy c.in_ok-clone.field-0 (c.in_ok-clone.ensures.cases ∙ c.in_ok-new.ensures ∙ ap new_database_place is)
+    (made_leads one two c.in_ok-clone.field-0 (c.in_ok-clone.ensures.cases ∙ c.in_ok-new.ensures ∙ ap new_database_place is)
     (g.F.Folder.past c.remove_if_any.new.folder) (g.F.Folder.past c.make.new.folder) c.new.result _
-    (subst (λ (b : List ℕ). StandsFor (present_nodes copy) b) (sym c.new.ensures) stands) c.in_ok-make.ensures.one.0))
-    (one_runs (IsMade copy) (IsNoneOrWhole copy) (IsSet copy) (SyncFile c.in_ok-new.new) (g.F.Folder.past c.make.new.folder)
+    (subst (λ (b : List ℕ). StandsFor two b) (sym c.new.ensures) stands) c.in_ok-make.ensures.one.0))
+    (one_runs (IsMade one two) (IsOneOf one two) (IsSet one two) (SyncFile c.in_ok-new.new) (g.F.Folder.past c.make.new.folder)
     (g.F.Folder.past c.take_if.new.folder) c.take_if.result
-    (set_leads copy c.in_ok-new.new (c.in_ok-new.ensures ∙ ap new_database_place is) (g.F.Folder.past c.make.new.folder) (g.F.Folder.past c.take_if.new.folder))
-    (set_breaks copy c.in_ok-new.new (c.in_ok-new.ensures ∙ ap new_database_place is) (g.F.Folder.past c.make.new.folder) (g.F.Folder.past c.take_if.new.folder))
+    (set_leads one two c.in_ok-new.new (c.in_ok-new.ensures ∙ ap new_database_place is) (g.F.Folder.past c.make.new.folder) (g.F.Folder.past c.take_if.new.folder))
+    (set_breaks one two c.in_ok-new.new (c.in_ok-new.ensures ∙ ap new_database_place is) (g.F.Folder.past c.make.new.folder) (g.F.Folder.past c.take_if.new.folder))
     (c.take_if.ensures.one sync))

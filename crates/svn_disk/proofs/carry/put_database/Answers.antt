@@ -1,7 +1,8 @@
 use Rattle.std.proofs.Common.{[], ◌∷◌, refl, ap, ◌∙◌, rules}
+use Rattle.std.specs.Prelude.{codes}
 use Rattle.svn_folder.specs.declared.step.Step.TheVariants.{SyncDirectory}
 use Rattle.svn_disk.specs.Places.{is_inside, new_database_place, database_place}
-use Rattle.svn_disk.specs.Crashes.{IsLasting, IsNoneOrWhole}
+use Rattle.svn_disk.specs.Crashes.{IsSafe, IsOneOf}
 use Rattle.svn_disk.proofs.Going.{goes_more, does_goes}
 use Rattle.svn_disk.proofs.Running.{runs_more, one_runs, breaks_there}
 use Rattle.svn_disk.proofs.Whole.{IsPut}
@@ -9,13 +10,13 @@ use Rattle.svn_disk.proofs.Replacing.{renames_inside, put_leads, put_breaks, las
 use Rattle.svn_disk.proofs.carry.put_database.Goals as goal
 
 pub returns-in_err-new-clause-crash : goal.returns-in_err-new-clause-crash
-returns-in_err-new-clause-crash g c = λ sync is copy. let stops = set_none copy (g.F.Folder.past c.args.folder.now) in search rules
+returns-in_err-new-clause-crash g c = λ sync is one two. let stops = set_none one two (g.F.Folder.past c.args.folder.now) in search rules
 
 pub returns-in_err-database-clause-crash : goal.returns-in_err-database-clause-crash
-returns-in_err-database-clause-crash g c = λ sync is copy. let stops = set_none copy (g.F.Folder.past c.args.folder.now) in search rules
+returns-in_err-database-clause-crash g c = λ sync is one two. let stops = set_none one two (g.F.Folder.past c.args.folder.now) in search rules
 
 pub returns-in_err-above-clause-crash : goal.returns-in_err-above-clause-crash
-returns-in_err-above-clause-crash g c = λ sync is copy. let stops = set_none copy (g.F.Folder.past c.args.folder.now) in search rules
+returns-in_err-above-clause-crash g c = λ sync is one two. let stops = set_none one two (g.F.Folder.past c.args.folder.now) in search rules
 
 pub returns-in_err-rename-clause-steps : goal.returns-in_err-rename-clause-steps
 returns-in_err-rename-clause-steps g c =
@@ -23,8 +24,8 @@ returns-in_err-rename-clause-steps g c =
     let stops = c.in_err-rename.ensures.does.1 (is_inside n) (renames_inside n c.in_ok-new.new c.in_ok-new.ensures c.in_ok-database.database c.in_ok-database.ensures) in search rules
 
 pub returns-in_err-rename-clause-crash : goal.returns-in_err-rename-clause-crash
-returns-in_err-rename-clause-crash g c = λ sync is copy.
-    let stops = put_breaks copy c.in_ok-new.new (c.in_ok-new.ensures ∙ ap new_database_place is) (g.F.Folder.past c.args.folder.now)
+returns-in_err-rename-clause-crash g c = λ sync is one two.
+    let stops = put_breaks one two c.in_ok-new.new (c.in_ok-new.ensures ∙ ap new_database_place is) (g.F.Folder.past c.args.folder.now)
     (g.F.Folder.past c.rename.new.folder) c.in_ok-database.database (c.in_ok-database.ensures ∙ ap database_place is) c.in_err-rename.ensures.one.1 in search rules
 
 pub returns-clause-steps : goal.returns-clause-steps
@@ -36,12 +37,12 @@ returns-clause-steps g c =
     c.take_if.result refl c.take_if.ensures.does)
 
 pub returns-clause-crash : goal.returns-clause-crash
-returns-clause-crash g c = λ sync is copy.
-    runs_more (IsLasting copy) (g.F.Folder.past c.take_if.new.folder) c.take_if.result
-    (put_leads copy c.in_ok-new.new (c.in_ok-new.ensures ∙ ap new_database_place is) (g.F.Folder.past c.args.folder.now)
+returns-clause-crash g c = λ sync is one two.
+    runs_more (IsSafe (codes ".svn") two) (g.F.Folder.past c.take_if.new.folder) c.take_if.result
+    (put_leads one two c.in_ok-new.new (c.in_ok-new.ensures ∙ ap new_database_place is) (g.F.Folder.past c.args.folder.now)
     (g.F.Folder.past c.rename.new.folder) c.in_ok-database.database (c.in_ok-database.ensures ∙ ap database_place is) c.in_ok-rename.ensures.one.0)
-    (one_runs (IsPut copy) (IsNoneOrWhole copy) (IsLasting copy) (SyncDirectory c.in_ok-above.above) (g.F.Folder.past c.rename.new.folder)
+    (one_runs (IsPut one two) (IsOneOf one two) (IsSafe (codes ".svn") two) (SyncDirectory c.in_ok-above.above) (g.F.Folder.past c.rename.new.folder)
     (g.F.Folder.past c.take_if.new.folder) c.take_if.result
-    (last_leads copy c.in_ok-above.above (c.in_ok-above.ensures ∙ ap (λ n. n ∷ []) is) (g.F.Folder.past c.rename.new.folder) (g.F.Folder.past c.take_if.new.folder))
-    (last_breaks copy c.in_ok-above.above (c.in_ok-above.ensures ∙ ap (λ n. n ∷ []) is) (g.F.Folder.past c.rename.new.folder) (g.F.Folder.past c.take_if.new.folder))
+    (last_leads one two c.in_ok-above.above (c.in_ok-above.ensures ∙ ap (λ n. n ∷ []) is) (g.F.Folder.past c.rename.new.folder) (g.F.Folder.past c.take_if.new.folder))
+    (last_breaks one two c.in_ok-above.above (c.in_ok-above.ensures ∙ ap (λ n. n ∷ []) is) (g.F.Folder.past c.rename.new.folder) (g.F.Folder.past c.take_if.new.folder))
     (c.take_if.ensures.one sync))

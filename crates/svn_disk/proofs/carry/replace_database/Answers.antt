@@ -1,17 +1,18 @@
 use Rattle.std.proofs.Common.{rules}
-use Rattle.svn_disk.specs.Crashes.{IsLasting}
+use Rattle.std.specs.Prelude.{codes}
+use Rattle.svn_disk.specs.Crashes.{IsSafe}
 use Rattle.svn_disk.proofs.Going.{goes_more}
 use Rattle.svn_disk.proofs.Running.{runs_more}
 use Rattle.svn_disk.proofs.carry.replace_database.Goals as goal
 
 pub returns-in_err-make_database-clause-crash : goal.returns-in_err-make_database-clause-crash
-returns-in_err-make_database-clause-crash g c = λ sync is copy stands. let stops = (c.in_err-make_database.ensures.crash sync is copy stands).1 in search rules
+returns-in_err-make_database-clause-crash g c = λ sync is one two stands. let stops = (c.in_err-make_database.ensures.crash sync is one two stands).1 in search rules
 
 pub returns-clause-steps : goal.returns-clause-steps
 returns-clause-steps g c =
     goes_more (g.F.Folder.past c.put_database.new.folder) c.put_database.result c.in_ok-make_database.ensures.steps.0 c.put_database.ensures.steps
 
 pub returns-clause-crash : goal.returns-clause-crash
-returns-clause-crash g c = λ sync is copy stands.
-    runs_more (IsLasting copy) (g.F.Folder.past c.put_database.new.folder) c.put_database.result
-    (c.in_ok-make_database.ensures.crash sync is copy stands).0 (c.put_database.ensures.crash sync is copy)
+returns-clause-crash g c = λ sync is one two stands.
+    runs_more (IsSafe (codes ".svn") two) (g.F.Folder.past c.put_database.new.folder) c.put_database.result
+    (c.in_ok-make_database.ensures.crash sync is one two stands).0 (c.put_database.ensures.crash sync is one two)

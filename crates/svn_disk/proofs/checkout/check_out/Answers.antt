@@ -1,18 +1,20 @@
 use Rattle.std.specs.Prelude.{codes}
-use Rattle.svn_disk.specs.Crashes.{IsWhole, IsNoneOrWhole, IsLasting}
+use Rattle.svn_disk.specs.Plans.{present_nodes}
+use Rattle.svn_disk.specs.Crashes.{IsWhole, IsNoneOrWhole, IsFree, IsSafe}
 use Rattle.svn_disk.proofs.Going.{goes_more}
 use Rattle.svn_disk.proofs.Running.{runs_more, runs_leaves, runs_after, breaks_leaves}
+use Rattle.svn_disk.proofs.Whole.{safe_left}
 use Rattle.svn_disk.proofs.Replacing.{free_none}
 use Rattle.svn_disk.proofs.checkout.check_out.Goals as goal
 
 pub returns-in_err-refuse_reserved-clause-crash : goal.returns-in_err-refuse_reserved-clause-crash
-returns-in_err-refuse_reserved-clause-crash g c = λ sync. breaks_leaves (free_none c.args.what.now.copy.now (g.F.Folder.past c.args.folder.now.folder))
+returns-in_err-refuse_reserved-clause-crash g c = λ sync. breaks_leaves (free_none (present_nodes c.args.what.now.copy.now) (g.F.Folder.past c.args.folder.now.folder))
 
 pub returns-in_err-refuse_taken-clause-crash : goal.returns-in_err-refuse_taken-clause-crash
-returns-in_err-refuse_taken-clause-crash g c = λ sync. breaks_leaves (free_none c.args.what.now.copy.now (g.F.Folder.past c.args.folder.now.folder))
+returns-in_err-refuse_taken-clause-crash g c = λ sync. breaks_leaves (free_none (present_nodes c.args.what.now.copy.now) (g.F.Folder.past c.args.folder.now.folder))
 
 pub returns-in_err-contents-clause-crash : goal.returns-in_err-contents-clause-crash
-returns-in_err-contents-clause-crash g c = λ sync. breaks_leaves (free_none c.args.what.now.copy.now (g.F.Folder.past c.args.folder.now.folder))
+returns-in_err-contents-clause-crash g c = λ sync. breaks_leaves (free_none (present_nodes c.args.what.now.copy.now) (g.F.Folder.past c.args.folder.now.folder))
 
 pub returns-in_err-end-clause-crash : goal.returns-in_err-end-clause-crash
 returns-in_err-end-clause-crash g c = λ sync. breaks_leaves (c.in_err-end.ensures.crash sync).1
@@ -23,14 +25,16 @@ returns-clause-steps g c =
 
 pub returns-clause-crash : goal.returns-clause-crash
 returns-clause-crash g c = λ sync.
-    runs_leaves (IsNoneOrWhole c.args.what.now.copy.now) (IsLasting c.args.what.now.copy.now) (g.F.Folder.past c.args.folder.now.folder) (g.F.Folder.past c.finish_copy.new.folder.folder)
-    c.finish_copy.result
-    (runs_more (IsLasting c.args.what.now.copy.now) (g.F.Folder.past c.finish_copy.new.folder.folder) c.finish_copy.result
+    let nodes = present_nodes c.args.what.now.copy.now in
+    runs_leaves IsFree (IsNoneOrWhole nodes) (IsSafe (codes ".svn") nodes) (g.F.Folder.past c.args.folder.now.folder)
+    (g.F.Folder.past c.finish_copy.new.folder.folder) c.finish_copy.result
+    (runs_more (IsSafe (codes ".svn") nodes) (g.F.Folder.past c.finish_copy.new.folder.folder) c.finish_copy.result
     (c.in_ok-end.ensures.crash sync).0 (c.finish_copy.ensures.crash sync))
 
 pub returns-clause-after : goal.returns-clause-after
 returns-clause-after g c = λ sync.
-    runs_after (IsNoneOrWhole c.args.what.now.copy.now) (IsWhole (codes ".svn") c.args.what.now.copy.now) (IsLasting c.args.what.now.copy.now) (g.F.Folder.past c.args.folder.now.folder)
-    (g.F.Folder.past c.finish_copy.new.folder.folder) c.finish_copy.result (λ s lasting. lasting)
-    (runs_more (IsLasting c.args.what.now.copy.now) (g.F.Folder.past c.finish_copy.new.folder.folder) c.finish_copy.result
+    let nodes = present_nodes c.args.what.now.copy.now in
+    runs_after IsFree (IsNoneOrWhole nodes) (IsWhole (codes ".svn") nodes) (IsSafe (codes ".svn") nodes) (g.F.Folder.past c.args.folder.now.folder)
+    (g.F.Folder.past c.finish_copy.new.folder.folder) c.finish_copy.result (safe_left (codes ".svn") nodes)
+    (runs_more (IsSafe (codes ".svn") nodes) (g.F.Folder.past c.finish_copy.new.folder.folder) c.finish_copy.result
     (c.in_ok-end.ensures.crash sync).0 (c.finish_copy.ensures.crash sync))

@@ -1,6 +1,7 @@
 use Rattle.std.proofs.Common.{rules, ap}
 use Rattle.svn_wcrows.specs.Copies.{StandsFor}
 use Rattle.svn_disk.specs.Places.{is_of_copy}
+use Rattle.svn_disk.specs.Plans.{present_nodes}
 use Rattle.svn_disk.proofs.Going.{keeps_more, stops_more, stops_there}
 use Rattle.svn_disk.proofs.Running.{leads_more, breaks_more, breaks_there}
 use Rattle.svn_disk.proofs.Placing.{made_keeps, made_stops, naming_of_copy}
@@ -8,7 +9,7 @@ use Rattle.svn_disk.proofs.Replacing.{making_leads, making_breaks, naming_leads,
 use Rattle.svn_disk.proofs.checkout.make_copy.Goals as goal
 
 pub returns-in_err-admin-clause-crash : goal.returns-in_err-admin-clause-crash
-returns-in_err-admin-clause-crash g c = λ sync. let stops = free_none c.args.what.now.copy.now (g.F.Folder.past c.args.folder.now.folder) in search rules
+returns-in_err-admin-clause-crash g c = λ sync. let stops = free_none (present_nodes c.args.what.now.copy.now) (g.F.Folder.past c.args.folder.now.folder) in search rules
 
 pub returns-in_err-progress-clause-steps : goal.returns-in_err-progress-clause-steps
 returns-in_err-progress-clause-steps g c =
@@ -17,7 +18,7 @@ returns-in_err-progress-clause-steps g c =
 
 pub returns-in_err-progress-clause-crash : goal.returns-in_err-progress-clause-crash
 returns-in_err-progress-clause-crash g c = λ sync.
-    let stops = making_breaks c.args.what.now.copy.now c.in_ok-admin.admin.name c.in_ok-admin.ensures (g.F.Folder.past c.args.folder.now.folder)
+    let stops = making_breaks (present_nodes c.args.what.now.copy.now) c.in_ok-admin.admin.name c.in_ok-admin.ensures (g.F.Folder.past c.args.folder.now.folder)
     (g.F.Folder.past c.lay_out_on_disk.new.folder.folder) c.in_err-progress.ensures.steps.1 in search rules
 
 pub returns-in_err-end-clause-steps : goal.returns-in_err-end-clause-steps
@@ -27,7 +28,7 @@ returns-in_err-end-clause-steps g c =
 
 pub returns-in_err-end-clause-crash : goal.returns-in_err-end-clause-crash
 returns-in_err-end-clause-crash g c = λ sync.
-    let stops = breaks_there (making_leads c.args.what.now.copy.now c.in_ok-admin.admin.name c.in_ok-admin.ensures (g.F.Folder.past c.args.folder.now.folder)
+    let stops = breaks_there (making_leads (present_nodes c.args.what.now.copy.now) c.in_ok-admin.admin.name c.in_ok-admin.ensures (g.F.Folder.past c.args.folder.now.folder)
     (g.F.Folder.past c.lay_out_on_disk.new.folder.folder) c.in_ok-progress.ensures.steps.0 (c.in_ok-progress.ensures.synced sync)
     c.in_ok-progress.ensures.whole) in search rules
 
@@ -39,10 +40,10 @@ returns-in_err-name_folder-clause-steps g c =
 
 pub returns-in_err-name_folder-clause-crash : goal.returns-in_err-name_folder-clause-crash
 returns-in_err-name_folder-clause-crash g c = λ sync.
-    let stops = breaks_more (making_leads c.args.what.now.copy.now c.in_ok-admin.admin.name c.in_ok-admin.ensures (g.F.Folder.past c.args.folder.now.folder)
+    let stops = breaks_more (making_leads (present_nodes c.args.what.now.copy.now) c.in_ok-admin.admin.name c.in_ok-admin.ensures (g.F.Folder.past c.args.folder.now.folder)
     (g.F.Folder.past c.lay_out_on_disk.new.folder.folder) c.in_ok-progress.ensures.steps.0 (c.in_ok-progress.ensures.synced sync)
     c.in_ok-progress.ensures.whole)
-    (naming_breaks c.args.what.now.copy.now (g.F.Folder.past c.lay_out_on_disk.new.folder.folder) (g.F.Folder.past c.name_folder.new.folder.folder)
+    (naming_breaks (present_nodes c.args.what.now.copy.now) (g.F.Folder.past c.lay_out_on_disk.new.folder.folder) (g.F.Folder.past c.name_folder.new.folder.folder)
     c.in_err-name_folder.ensures.one.1) in search rules
 
 pub returns-clause-steps : goal.returns-clause-steps
@@ -55,10 +56,10 @@ returns-clause-steps g c = (
 
 pub returns-clause-crash : goal.returns-clause-crash
 returns-clause-crash g c = λ sync. (
-  leads_more (making_leads c.args.what.now.copy.now c.in_ok-admin.admin.name c.in_ok-admin.ensures (g.F.Folder.past c.args.folder.now.folder)
+  leads_more (making_leads (present_nodes c.args.what.now.copy.now) c.in_ok-admin.admin.name c.in_ok-admin.ensures (g.F.Folder.past c.args.folder.now.folder)
       (g.F.Folder.past c.lay_out_on_disk.new.folder.folder) c.in_ok-progress.ensures.steps.0 (c.in_ok-progress.ensures.synced sync)
       c.in_ok-progress.ensures.whole)
-      (naming_leads c.args.what.now.copy.now (g.F.Folder.past c.lay_out_on_disk.new.folder.folder) (g.F.Folder.past c.name_folder.new.folder.folder)
+      (naming_leads (present_nodes c.args.what.now.copy.now) (g.F.Folder.past c.lay_out_on_disk.new.folder.folder) (g.F.Folder.past c.name_folder.new.folder.folder)
       c.in_ok-name_folder.ensures.one.0),
   tt,
 )

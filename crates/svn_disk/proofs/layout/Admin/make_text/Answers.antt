@@ -2,7 +2,7 @@ use Rattle.std.proofs.Common.{rules}
 use Rattle.std.specs.Prelude.{None}
 use Rattle.svn_folder.specs.declared.step.Step.TheVariants.{Make}
 use Rattle.svn_folder.specs.declared.entry.Entry.TheVariants.{File}
-use Rattle.svn_disk.specs.Places.{is_inside}
+use Rattle.svn_disk.specs.Places.{is_temporary}
 use Rattle.svn_disk.proofs.Going.{taken, refused, one_each}
 use Rattle.svn_disk.proofs.layout.Admin.make_text.Goals as goal
 
@@ -11,15 +11,15 @@ returns-in_err-make_file g c =
     let made = c.in_err-make_file.ensures.made in
     let step = Make c.args.path.now (File made.bytes c.args.mode) None in
     let n = c.args.self.now.name in
-    let stops = refused step (g.F.Folder.past c.args.folder.now) (g.F.Folder.past c.make_file.new.self) c.in_err-make_file.field-0.0 made.takes (is_inside n)
-    (one_each (is_inside n) step c.requires) in search rules
+    let stops = refused step (g.F.Folder.past c.args.folder.now) (g.F.Folder.past c.make_file.new.self) c.in_err-make_file.field-0.0 made.takes (is_temporary n)
+    (one_each (is_temporary n) step c.requires) in search rules
 
 pub returns : goal.returns
 returns g c =
     let made = c.in_ok-make_file.ensures.made in
     let step = Make c.args.path.now (File made.bytes c.args.mode) None in
     let n = c.args.self.now.name in (
-      taken step (g.F.Folder.past c.args.folder.now) (g.F.Folder.past c.make_file.new.self) c.in_ok-make_file.field-0 made.takes (is_inside n)
-          (one_each (is_inside n) step c.requires),
+      taken step (g.F.Folder.past c.args.folder.now) (g.F.Folder.past c.make_file.new.self) c.in_ok-make_file.field-0 made.takes (is_temporary n)
+          (one_each (is_temporary n) step c.requires),
       tt,
     )

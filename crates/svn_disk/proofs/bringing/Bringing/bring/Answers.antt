@@ -1,0 +1,41 @@
+use Rattle.std.proofs.Common.{List, subst, rules}
+use Rattle.std.specs.Prelude.{codes}
+use Rattle.svn_types.proofs.NameLemmas.{Name}
+use Rattle.svn_disk.specs.Places.{is_either, is_of_change}
+use Rattle.svn_disk.specs.Crashes.{Adds, AddsSome}
+use Rattle.svn_disk.proofs.Going.{goes_more}
+use Rattle.svn_disk.proofs.Changing.{inside_keeps, inside_stops}
+use Rattle.svn_disk.proofs.Copies.{kept_none, added_breaks, brought_runs}
+use Rattle.svn_disk.proofs.bringing.Bringing.bring.Goals as goal
+
+pub returns-in_err-task-clause-crash : goal.returns-in_err-task-clause-crash
+returns-in_err-task-clause-crash g c = λ sync.
+    let stops = kept_none c.args.self.now.existing.now.copy c.args.self.now.wanted.now.copy (g.F.Folder.past c.args.folder.now.folder) in search rules
+
+pub returns-in_err-ready-clause-steps : goal.returns-in_err-ready-clause-steps
+returns-in_err-ready-clause-steps g c =
+    let some = subst (λ (n : Name). AddsSome n (g.F.Folder.past c.args.folder.now.folder) (g.F.Folder.past c.prepare_all.new.folder.folder)) c.requires
+    c.in_err-ready.ensures.adds.1 in
+    let stops = inside_stops (codes ".svn") (is_either c.args.self.now.existing.now.copy c.args.self.now.wanted.now.copy) some.stops in search rules
+
+pub returns-in_err-ready-clause-crash : goal.returns-in_err-ready-clause-crash
+returns-in_err-ready-clause-crash g c = λ sync.
+    let some = subst (λ (n : Name). AddsSome n (g.F.Folder.past c.args.folder.now.folder) (g.F.Folder.past c.prepare_all.new.folder.folder)) c.requires
+    c.in_err-ready.ensures.adds.1 in
+    let stops = added_breaks c.args.self.now.existing.now.copy c.args.self.now.wanted.now.copy (g.F.Folder.past c.args.folder.now.folder)
+    (g.F.Folder.past c.prepare_all.new.folder.folder) some in search rules
+
+pub returns-clause-steps : goal.returns-clause-steps
+returns-clause-steps g c =
+    let adds = subst (λ (n : Name). Adds n (g.F.Folder.past c.args.folder.now.folder) (g.F.Folder.past c.prepare_all.new.folder.folder)) c.requires
+    c.in_ok-ready.ensures.adds.0 in
+    goes_more (g.F.Folder.past c.finish.new.folder.folder) c.finish.result
+    (inside_keeps (codes ".svn") (is_either c.args.self.now.existing.now.copy c.args.self.now.wanted.now.copy) adds.keeps) c.finish.ensures.steps
+
+pub returns-clause-crash : goal.returns-clause-crash
+returns-clause-crash g c = λ sync.
+    let adds = subst (λ (n : Name). Adds n (g.F.Folder.past c.args.folder.now.folder) (g.F.Folder.past c.prepare_all.new.folder.folder)) c.requires
+    c.in_ok-ready.ensures.adds.0 in
+    brought_runs c.args.self.now.existing.now.copy c.args.self.now.wanted.now.copy c.in_ok-ready.ready.images.nodes.items c.in_ok-ready.ensures.nodes
+    (g.F.Folder.past c.args.folder.now.folder) (g.F.Folder.past c.prepare_all.new.folder.folder) (g.F.Folder.past c.finish.new.folder.folder) c.finish.result adds
+    (c.finish.ensures.crash sync)

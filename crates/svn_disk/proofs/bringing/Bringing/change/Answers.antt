@@ -1,0 +1,59 @@
+use Rattle.std.proofs.Common.{List, inr, subst, sym, ◌∙◌, rules}
+use Rattle.std.specs.Prelude.{codes}
+use Rattle.svn_types.specs.Names.{Path}
+use Rattle.svn_model.specs.declared.base_node.BaseNode.{BaseNode}
+use Rattle.svn_wcrows.specs.Copies.{StandsFor}
+use Rattle.svn_disk.specs.Places.{is_either}
+use Rattle.svn_disk.specs.Crashes.{IsOneOf, IsWhole, IsSafe, AreOfNodes, Breaks, Leads}
+use Rattle.svn_disk.proofs.Going.{goes_more}
+use Rattle.svn_disk.proofs.Running.{runs_more, runs_along}
+use Rattle.svn_disk.proofs.Changing.{inside_keeps, inside_stops, work_outside}
+use Rattle.svn_disk.proofs.Replacing.{one_none}
+use Rattle.svn_disk.proofs.bringing.Bringing.change.Goals as goal
+
+pub put-requires-clause-image : goal.put-requires-clause-image
+put-requires-clause-image g c =
+    subst (λ (xs : List (Path × BaseNode)). StandsFor xs c.in_ok-first.first.items) (sym (c.after.ensures.nodes ∙ c.next.ensures.nodes)) c.in_ok-first.ensures.image
+
+pub carry_on-requires-clause-outside : goal.carry_on-requires-clause-outside
+carry_on-requires-clause-outside g c =
+    work_outside c.args.self.now.existing.now.copy c.args.self.now.wanted.now.copy c.args.task.now.work.items c.requires.task
+
+pub returns-in_err-known-clause-crash : goal.returns-in_err-known-clause-crash
+returns-in_err-known-clause-crash g c = λ sync old are.
+    let stops = one_none old c.args.ready.images.nodes.items (g.F.Folder.past c.args.folder.now.folder) in search rules
+
+pub returns-in_err-first-clause-crash : goal.returns-in_err-first-clause-crash
+returns-in_err-first-clause-crash g c = λ sync old are.
+    let stops = one_none old c.args.ready.images.nodes.items (g.F.Folder.past c.args.folder.now.folder) in search rules
+
+pub returns-in_err-databases-clause-crash : goal.returns-in_err-databases-clause-crash
+returns-in_err-databases-clause-crash g c = λ sync old are.
+    let stops = one_none old c.args.ready.images.nodes.items (g.F.Folder.past c.args.folder.now.folder) in search rules
+
+pub returns-in_err-put-clause-steps : goal.returns-in_err-put-clause-steps
+returns-in_err-put-clause-steps g c =
+    let stops = inside_stops (codes ".svn") (is_either c.args.self.now.existing.now.copy c.args.self.now.wanted.now.copy) c.in_err-put.ensures.steps.1 in search rules
+
+pub returns-in_err-put-clause-crash : goal.returns-in_err-put-clause-crash
+returns-in_err-put-clause-crash g c = λ sync old are.
+    let stops = subst (λ (xs : List (Path × BaseNode)). Breaks (IsSafe (codes ".svn") old) (IsOneOf old xs) (g.F.Folder.past c.args.folder.now.folder)
+    (g.F.Folder.past c.put.new.folder.folder)) (c.after.ensures.nodes ∙ c.next.ensures.nodes) (c.in_err-put.ensures.crash sync old are).1 in search rules
+
+pub returns-clause-steps : goal.returns-clause-steps
+returns-clause-steps g c =
+    let free = is_either c.args.self.now.existing.now.copy c.args.self.now.wanted.now.copy in
+    goes_more (g.F.Folder.past c.carry_on.new.folder.folder) c.carry_on.result (inside_keeps (codes ".svn") free c.in_ok-put.ensures.steps.0)
+    (c.carry_on.ensures.steps free c.requires.task)
+
+pub returns-clause-crash : goal.returns-clause-crash
+returns-clause-crash g c = λ sync old are.
+    let new = c.args.ready.images.nodes.items in
+    let put = subst (λ (xs : List (Path × BaseNode)). Leads (IsSafe (codes ".svn") old) (IsOneOf old xs) (IsSafe (codes ".svn") xs)
+    (g.F.Folder.past c.args.folder.now.folder) (g.F.Folder.past c.put.new.folder.folder)) (c.after.ensures.nodes ∙ c.next.ensures.nodes)
+    (c.in_ok-put.ensures.crash sync old are).0 in
+    let images = subst (λ (xs : List (Path × BaseNode)). AreOfNodes xs c.in_ok-databases.databases) c.next.ensures.nodes c.in_ok-databases.ensures.images in
+    runs_more (IsSafe (codes ".svn") new) (g.F.Folder.past c.carry_on.new.folder.folder) c.carry_on.result put
+    (runs_along (IsSafe (codes ".svn") new) (IsSafe (codes ".svn") new) (IsSafe (codes ".svn") new) (IsSafe (codes ".svn") new) (IsWhole (codes ".svn") new)
+    (IsOneOf old new) (λ s safe. safe) (λ left whole. inr whole) (λ s safe. safe) (g.F.Folder.past c.put.new.folder.folder)
+    (g.F.Folder.past c.carry_on.new.folder.folder) c.carry_on.result (c.carry_on.ensures.crash sync new images))

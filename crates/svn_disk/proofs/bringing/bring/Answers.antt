@@ -1,0 +1,25 @@
+use Rattle.std.proofs.Common.{rules}
+use Rattle.svn_disk.specs.Crashes.{IsKept, IsOldOrNew, IsThere}
+use Rattle.svn_disk.proofs.Going.{goes_there}
+use Rattle.svn_disk.proofs.Running.{breaks_leaves, leads_leaves, runs_there, runs_after}
+use Rattle.svn_disk.proofs.Copies.{kept_none, kept_left}
+use Rattle.svn_disk.proofs.bringing.bring.Goals as goal
+
+pub returns-in_err-plan-clause-crash : goal.returns-in_err-plan-clause-crash
+returns-in_err-plan-clause-crash g c = λ sync.
+    breaks_leaves (kept_none c.args.existing.now.copy c.args.wanted.now.copy (g.F.Folder.past c.args.folder.now.folder))
+
+pub returns-in_err-bring_by-clause-crash : goal.returns-in_err-bring_by-clause-crash
+returns-in_err-bring_by-clause-crash g c = λ sync. breaks_leaves (c.in_err-bring_by.ensures.crash sync).1
+
+pub returns-clause-steps : goal.returns-clause-steps
+returns-clause-steps g c = goes_there c.into_changes.result c.in_ok-bring_by.ensures.steps.0
+
+pub returns-clause-crash : goal.returns-clause-crash
+returns-clause-crash g c = λ sync. leads_leaves (c.in_ok-bring_by.ensures.crash sync).0
+
+pub returns-clause-after : goal.returns-clause-after
+returns-clause-after g c = λ sync.
+    runs_after (IsKept c.args.existing.now.copy) (IsOldOrNew c.args.existing.now.copy c.args.wanted.now.copy) (IsThere c.args.wanted.now.copy)
+    (IsKept c.args.wanted.now.copy) (g.F.Folder.past c.args.folder.now.folder) (g.F.Folder.past c.bring_by.new.folder.folder) c.into_changes.result
+    (kept_left c.args.wanted.now.copy) (runs_there c.into_changes.result (c.in_ok-bring_by.ensures.crash sync).0)

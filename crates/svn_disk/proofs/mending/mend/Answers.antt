@@ -1,0 +1,33 @@
+use Rattle.std.proofs.Common.{inl, inr, rules}
+use Rattle.svn_disk.specs.Goes.{Stops, no_step}
+use Rattle.svn_disk.proofs.Going.{stops_none}
+use Rattle.svn_disk.proofs.Running.{breaks_leaves}
+use Rattle.svn_disk.proofs.Copies.{mend_none, leaves_read, after_read_ok}
+use Rattle.svn_disk.proofs.mending.mend.Goals as goal
+
+pub returns-in_err-existing-clause-steps : goal.returns-in_err-existing-clause-steps
+returns-in_err-existing-clause-steps g c =
+    let none : Stops no_step (g.F.Folder.past c.args.folder.now.folder) (g.F.Folder.past c.args.folder.now.folder) =
+    stops_none no_step (g.F.Folder.past c.args.folder.now.folder) in inl (search rules)
+
+pub returns-in_err-existing-clause-crash : goal.returns-in_err-existing-clause-crash
+returns-in_err-existing-clause-crash g c = λ sync copy. breaks_leaves (mend_none c.args.what.now.repo.now copy (g.F.Folder.past c.args.folder.now.folder))
+
+pub returns-clause-steps : goal.returns-clause-steps
+returns-clause-steps g c = inr (record {
+  copy = c.in_ok-existing.existing.copy;
+  other = c.in_ok-existing.wanted.copy;
+  was = c.in_ok-existing.ensures.was;
+  is_true = c.in_ok-existing.ensures.is_true;
+  steps = c.bring.ensures.steps;
+})
+
+pub returns-clause-crash : goal.returns-clause-crash
+returns-clause-crash g c = λ sync copy.
+    leaves_read copy c.in_ok-existing.existing.copy (g.F.Folder.past c.args.folder.now.folder) c.in_ok-existing.ensures.was c.args.what.now.repo.now
+    c.in_ok-existing.wanted.copy (g.F.Folder.past c.bring.new.folder.folder) c.in_ok-existing.ensures.is_true (c.bring.ensures.crash sync)
+
+pub returns-clause-after : goal.returns-clause-after
+returns-clause-after g c = λ sync copy.
+    after_read_ok copy c.in_ok-existing.existing.copy (g.F.Folder.past c.args.folder.now.folder) c.in_ok-existing.ensures.was c.args.what.now.repo.now
+    c.in_ok-existing.wanted.copy (g.F.Folder.past c.bring.new.folder.folder) c.bring.result c.in_ok-existing.ensures.is_true (c.bring.ensures.after sync)

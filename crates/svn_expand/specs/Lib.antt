@@ -1,0 +1,3 @@
+pub mod Results
+pub mod Deltas
+pub mod Records
