@@ -2,7 +2,7 @@
 //!
 //! `svnadmin dump --deltas` and `svnrdump dump` give a text as a delta over the one before it, and the latter no SHA-1 checksum of either. What is to know
 //! the texts of a history, or where in a file each of them is, needs them whole. An [`Expander`] reads such a dump off any `Read`, and returns, record by
-//! record, what is to be written in its place: a dump of the same records, in which each text is whole, with both checksums. The texts before are
+//! record, what is written in its place: a dump of the same records, in which each text is whole, with both checksums. The texts before are
 //! read again from what was written ([`Store`]), so that none stays in memory, and each delta is applied once.
 //!
 //! ```
