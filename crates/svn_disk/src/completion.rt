@@ -372,9 +372,10 @@ fn complete_if_busy<F: Folder>(
 /// Completes a copy whose making was cut off, and returns what there was to do. Where there is no copy yet, what the checkout left is removed. With `sync`
 /// everything is brought to the disk, each time before it counts.
 ///
-/// Refused before anything is changed: NoCopy; InUse where a client is about to write, and Journal; Foreign where the work is a client's, or the database was changed since, which `svn cleanup` is for;
-/// NoText where a pristine text isn't the one that its stand-in names; InTheWay at the first path where something is that isn't the copy's. Then Folder,
-/// Rows, Path and Memory. It may be cut off, and done again: with `sync` the copy that is on the disk stays there, whenever the program or the power stops.
+/// Refused before anything is changed: NoCopy; InUse where a client is about to write, and Journal; Foreign where the work is a client's, or the database was
+/// changed since, which `svn cleanup` is for; NoText where a pristine text isn't the one that its stand-in names; InTheWay at the first path where something
+/// is that isn't the copy's. Then Folder, Rows, Path and Memory. It may be cut off, and done again: with `sync` the copy that is on the disk stays there,
+/// whenever the program or the power stops.
 pub fn resume<F: Folder>(alloc: Global, folder: &mut F, sync: bool) -> Result<Resumed, DiskFault>
     ensures steps { Goes (is_inside (codes ".svn-new")) (F.past folder.old) result (F.past folder.new) ⊎ Goes (is_doing (codes ".svn") is_outside) (F.past folder.old) result (F.past folder.new) }
     ensures crash { sync ≡ true → (copy : List (Path × BaseNode)) → LeavesFrom (IsKept copy) (IsThere copy) (F.past folder.old) (F.past folder.new) }

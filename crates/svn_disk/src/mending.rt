@@ -61,10 +61,11 @@ pub fn mend_changes<F: Folder>(
 /// Puts a copy right where it isn't true of the repository, as [`mended`] says, and returns the paths that changed, in path order; none of a true copy,
 /// which stays as it is.
 ///
-/// Refused before anything is changed: NoCopy; InUse where a client is about to write; Journal, Database, Nodes and Rows where the copy can't be read; Unfinished where work of this library is
-/// left, Foreign where a client's is; Repository; NoRoot; Reserved; what is in the way of the change: Local, NoDirectory, Changed and InTheWay at the first
-/// path. Then NoText at the first file whose text isn't given, InUse where a client changes the copy meanwhile, Folder, Rows, Path and Memory: up to the
-/// rename of the new database the copy is the old one, and from then on the new one, with work left that [`resume`](crate::resume) and `svn cleanup` do.
+/// Refused before anything is changed: NoCopy; InUse where a client is about to write; Journal, Database, Nodes and Rows where the copy can't be read;
+/// Unfinished where work of this library is left, Foreign where a client's is; Repository; NoRoot; Reserved; what is in the way of the change: Local,
+/// NoDirectory, Changed and InTheWay at the first path. Then NoText at the first file whose text isn't given, InUse where a client changes the copy
+/// meanwhile, Folder, Rows, Path and Memory: up to the rename of the new database the copy is the old one, and from then on the new one, with work left that
+/// [`resume`](crate::resume) and `svn cleanup` do.
 pub fn mend<F: Folder, S: Source>(
     alloc: Global,
     folder: &mut SyncedFolder<F>,
