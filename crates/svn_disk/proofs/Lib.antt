@@ -30,3 +30,21 @@ pub mod Copies
 pub mod Changing
 -- the steps of a checkout and of a change change nothing elsewhere
 pub mod Elsewhere
+-- what is shown after parts of a call
+pub mod Ends
+-- work, done, and what is shown then
+pub mod EndsWork
+-- files under names of their own
+pub mod EndsTexts
+-- the nodes of a copy at their places
+pub mod EndsCopy
+-- texts that are written in another way
+pub mod Rewriting
+-- steps, each in the state in which it is taken, and what they spare
+pub mod Sparing
+-- what is found at a path
+pub mod Finding
+-- the work that a queue names
+pub mod Queue
+-- the texts that are known
+pub mod KnownWords

@@ -1,5 +1,5 @@
--- What a checkout rests on when the administrative folder gets its name, and what its steps, and those of a change, leave alone.
-use Rattle.std.specs.Prelude.{◌≡◌, ◌⊎◌, ℕ, true, false, List, [], ◌∷◌, bytes_eq, codes, None}
+-- What a checkout rests on when the administrative folder gets its name, and what its steps, those of a change and those of a completion leave alone.
+use Rattle.std.specs.Prelude.{◌≡◌, ◌⊎◌, ℕ, Bool, true, false, List, [], ◌∷◌, bytes_eq, codes, Some, None}
 use Rattle.std.specs.List.{list_all}
 use Rattle.svn_types.specs.Names.{Path}
 use Rattle.svn_types.specs.Paths.{is_within}
@@ -11,7 +11,9 @@ use Rattle.svn_folder.specs.Steps.{after, run}
 use Rattle.svn_folder.specs.Crashes.{RunMayLeave}
 use Rattle.svn_folder.specs.Syncing.{IsSynced}
 use Rattle.svn_folder.specs.Laws.{IsOnDisk}
+use Rattle.svn_folder.specs.declared.entry.Entry.{Entry}
 use Rattle.svn_disk.specs.Places.{is_node, is_of_copy, is_either, is_of_change}
+use Rattle.svn_disk.specs.Spared.{EachIn, IsOwn, Spares}
 
 -- what was on the disk at a name in the folder, and below it, is there at another one
 abbrev pub IsThereUnder : State → List ℕ → List ℕ → Seen → Type 0
@@ -38,3 +40,9 @@ abbrev pub a_change_changes_nothing_else : Type 0
 a_change_changes_nothing_else =
     (old new : List (Path × BaseNode)) (s : State) (steps : List Step) (p : Path) → is_within (codes ".svn" ∷ []) p ≡ false
     → ((q : Path) → is_either old new q ≡ true → is_within q p ≡ false) → list_all (is_of_change old new) steps ≡ true → seen (run s steps) p ≡ seen s p
+
+-- Steps that spare all but what has a known text leave any other file or link, outside of the administrative folder, as it is.
+abbrev pub what_has_no_known_text_stays : Type 0
+what_has_no_known_text_stays =
+    (known : List ℕ → Bool) (n : List ℕ) (s : State) (steps : List Step) (p : Path) (e : Entry) → is_within (n ∷ []) p ≡ false → seen s p ≡ Some e
+    → (IsOwn known (Some e) → ⊥) → EachIn (Spares known n) s steps → seen (run s steps) p ≡ Some e

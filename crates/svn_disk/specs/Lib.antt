@@ -2,4 +2,10 @@ pub mod Goes
 pub mod Places
 pub mod Plans
 pub mod Crashes
+pub mod Ends
+pub mod Readings
+pub mod Signs
+pub mod Spared
+pub mod Finding
+pub mod Queue
 pub mod Laws

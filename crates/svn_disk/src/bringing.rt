@@ -1,5 +1,5 @@
 //! A working copy that is on disk, brought to another state: the old copy until one rename, and from then on the new one.
-ghost use Rattle.std.specs.Prelude.{◌≡◌, List, true, codes, Some, IfOk, OnOk};
+ghost use Rattle.std.specs.Prelude.{◌≡◌, ◌||◌, ℕ, List, true, codes, Some, IfOk, OnOk};
 ghost use Rattle.std.specs.List.{list_all};
 ghost use Rattle.svn_types.specs.Names.{Path};
 ghost use Rattle.svn_model.specs.declared.base_node.BaseNode.{BaseNode};
@@ -10,6 +10,8 @@ ghost use Rattle.svn_disk.specs.Goes.{Goes, IsAlways};
 ghost use Rattle.svn_disk.specs.Places.{is_inside, is_either, is_of_change};
 ghost use Rattle.svn_disk.specs.Plans.{path_of, text_of_node};
 ghost use Rattle.svn_disk.specs.Crashes.{IsTextIn, OfText, EachText, IsWhole, AreNodesOf, IsTextAt, IsThere, IsOldOrNew, IsSafe, IsKept, IsBoth, IsOneOf, IsAdding, LeavesFrom, AfterFrom, Runs};
+ghost use Rattle.svn_disk.specs.Spared.{GoesIn, Spares, texts_of, texts_of_either};
+ghost use Rattle.svn_disk.specs.Finding.{has_word};
 
 use crate::carry::replace_database;
 use crate::checkout::refuse_reserved;
@@ -152,6 +154,34 @@ impl Bringing<'_> {
         self.put(folder, &ready, end)
     }
 
+    // Adds the text of a file that comes.
+    #[tactic(auto, using(crate::proofs::KnownWords::or_last))]
+    fn add_coming(&self, known: &mut KnownTexts, item: &Work) -> Result<(), DiskFault>
+        ensures { OnOk result ((t : List ℕ) → has_word known.new t ≡ true → (texts_of self.now.wanted.now.copy t || has_word known.old t) ≡ true) }
+    {
+        let Work::InstallFile(path) = item else {
+            return Ok(());
+        };
+        let Some(node) = self.wanted.copy.get(path) else {
+            return Ok(());
+        };
+        match file_of(node) {
+            Some((text, _)) => known.add(text.as_slice()),
+            None => Ok(()),
+        }
+    }
+
+    // The texts that the new copy's database has rows of: those that the old copy keeps, and those of the files that come.
+    fn known(&self, task: &Task) -> Result<KnownTexts, DiskFault>
+        ensures { IfOk result (λ known. (t : List ℕ) → has_word known t ≡ true → texts_of_either self.now.existing.now.tables.pristine.items self.now.wanted.now.copy t ≡ true) }
+    {
+        let mut known = KnownTexts::of(self.alloc, &self.existing.tables.pristine)?;
+        for item in task.makings() {
+            self.add_coming(&mut known, item)?;
+        }
+        Ok(known)
+    }
+
     // Puts the new copy in place of the old one, and does the work that is left.
     fn change<F: Folder>(
         &self,
@@ -162,9 +192,10 @@ impl Bringing<'_> {
         requires name { self.now.admin.now.name ≡ codes ".svn" }
         requires task { list_all (λ item. is_either self.now.existing.now.copy self.now.wanted.now.copy (path_of item)) task.now.work.items ≡ true }
         ensures steps { Goes (is_of_change self.now.existing.now.copy self.now.wanted.now.copy) (F.past folder.old.folder) result (F.past folder.new.folder) }
+        ensures spares { GoesIn (Spares (texts_of_either self.now.existing.now.tables.pristine.items self.now.wanted.now.copy) (codes ".svn")) (F.past folder.old.folder) result (F.past folder.new.folder) }
         ensures crash { self.now.sync ≡ true → (old : List (Path × BaseNode)) → AreNodesOf self.now.existing.now.copy old → Runs (IsSafe (codes ".svn") old) (IsOneOf old ready.images.nodes.items) (IsSafe (codes ".svn") ready.images.nodes.items) (F.past folder.old.folder) result (F.past folder.new.folder) }
     {
-        let known = KnownTexts::of(self.alloc, &ready.images.tables.pristine)?;
+        let known = self.known(task)?;
         let first = ready.images.next(self.alloc, &task.work)?;
         let databases = Databases::after(self.alloc, &mut ready.images, task)?;
         self.put(folder, &ready, first)?;
@@ -219,6 +250,7 @@ impl Bringing<'_> {
         requires name { self.now.admin.now.name ≡ codes ".svn" }
         requires task { list_all (λ item. is_either self.now.existing.now.copy self.now.wanted.now.copy (path_of item)) task.now.work.items ≡ true }
         ensures steps { Goes (is_of_change self.now.existing.now.copy self.now.wanted.now.copy) (F.past folder.old.folder) result (F.past folder.new.folder) }
+        ensures spares { GoesIn (Spares (texts_of_either self.now.existing.now.tables.pristine.items self.now.wanted.now.copy) (codes ".svn")) (F.past folder.old.folder) result (F.past folder.new.folder) }
         ensures crash { self.now.sync ≡ true → (old : List (Path × BaseNode)) → AreNodesOf self.now.existing.now.copy old → Runs (IsSafe (codes ".svn") old) (IsOneOf old ready.images.nodes.items) (IsSafe (codes ".svn") ready.images.nodes.items) (F.past folder.old.folder) result (F.past folder.new.folder) }
     {
         if task.is_empty() {
@@ -236,6 +268,7 @@ impl Bringing<'_> {
     ) -> Result<(), DiskFault>
         requires { self.now.admin.now.name ≡ codes ".svn" }
         ensures steps { Goes (is_of_change self.now.existing.now.copy self.now.wanted.now.copy) (F.past folder.old.folder) result (F.past folder.new.folder) }
+        ensures spares { GoesIn (Spares (texts_of_either self.now.existing.now.tables.pristine.items self.now.wanted.now.copy) (codes ".svn")) (F.past folder.old.folder) result (F.past folder.new.folder) }
         ensures crash { self.now.sync ≡ true → Runs (IsKept self.now.existing.now.copy) (IsOldOrNew self.now.existing.now.copy self.now.wanted.now.copy) (IsKept self.now.wanted.now.copy) (F.past folder.old.folder) result (F.past folder.new.folder) }
     {
         let task = self.task()?;
@@ -288,7 +321,8 @@ pub fn changes<F: Folder>(
 /// Refused before anything is changed: Reserved at the first node named `.svn` of the old copy, or else of the new one; Local, NoDirectory, Changed and
 /// InTheWay at the first path where something is in the way. Then NoText at the first file whose text isn't given, Folder, Rows, Path and Memory, and
 /// InUse, or what is refused before, where something was changed since it was looked at: the copy is the old one. Once the new database has its name,
-/// Changed where a file was edited since, and Folder: the copy is the new one, with work left that [`resume`](crate::resume) and `svn cleanup` do.
+/// Changed where a file was edited since, InTheWay where something came to be where a directory would be, and Folder: the copy is the new one, with work left
+/// that [`resume`](crate::resume) and `svn cleanup` do.
 pub fn bring<F: Folder, S: Source>(
     alloc: Global,
     folder: &mut SyncedFolder<F>,
@@ -298,6 +332,7 @@ pub fn bring<F: Folder, S: Source>(
     sync: bool,
 ) -> Result<Vec<PathChange>, DiskFault>
     ensures steps { Goes (is_of_change existing.now.copy wanted.now.copy) (F.past folder.old.folder) result (F.past folder.new.folder) }
+    ensures spares { GoesIn (Spares (texts_of_either existing.now.tables.pristine.items wanted.now.copy) (codes ".svn")) (F.past folder.old.folder) result (F.past folder.new.folder) }
     ensures crash { sync ≡ true → LeavesFrom (IsKept existing.now.copy) (IsOldOrNew existing.now.copy wanted.now.copy) (F.past folder.old.folder) (F.past folder.new.folder) }
     ensures after { sync ≡ true → OnOk result (AfterFrom (IsKept existing.now.copy) (IsThere wanted.now.copy) (F.past folder.old.folder) (F.past folder.new.folder)) }
 {
@@ -315,6 +350,7 @@ fn bring_by<F: Folder, S: Source>(
     sync: bool,
 ) -> Result<(), DiskFault>
     ensures steps { Goes (is_of_change what.entry.0.now.copy what.entry.1.now.copy) (F.past folder.old.folder) result (F.past folder.new.folder) }
+    ensures spares { GoesIn (Spares (texts_of_either what.entry.0.now.tables.pristine.items what.entry.1.now.copy) (codes ".svn")) (F.past folder.old.folder) result (F.past folder.new.folder) }
     ensures crash { sync ≡ true → Runs (IsKept what.entry.0.now.copy) (IsOldOrNew what.entry.0.now.copy what.entry.1.now.copy) (IsKept what.entry.1.now.copy) (F.past folder.old.folder) result (F.past folder.new.folder) }
 {
     let (existing, wanted, plan) = what;

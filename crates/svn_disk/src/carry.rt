@@ -1,14 +1,15 @@
 //! The work of a new copy, done: its directories are made, and its files get their places.
-ghost use Rattle.std.specs.Prelude.{◌≡◌, List, Bool, true, codes};
+ghost use Rattle.std.specs.Prelude.{◌≡◌, List, Bool, true, codes, OnOk};
 ghost use Rattle.std.specs.List.{list_all};
 ghost use Rattle.svn_types.specs.Names.{Path};
 ghost use Rattle.svn_model.specs.declared.base_node.BaseNode.{BaseNode};
 ghost use Rattle.svn_wcrows.specs.Copies.{StandsFor};
 ghost use Rattle.svn_folder.specs.Files.{is_sync};
 ghost use Rattle.svn_disk.specs.Goes.{Goes};
-ghost use Rattle.svn_disk.specs.Places.{is_inside, is_placing};
+ghost use Rattle.svn_disk.specs.Places.{is_inside, is_outside, is_placing};
 ghost use Rattle.svn_disk.specs.Plans.{path_of};
 ghost use Rattle.svn_disk.specs.Crashes.{IsOneOf, IsSafe, IsBoth, IsSet, Runs};
+ghost use Rattle.svn_disk.specs.Ends.{Turns, ArePlaced, AreDistinct, AreDirectories, AreMade, IsOneMade, IsOnePlaced, files_of};
 
 use crate::fault::DiskFault;
 use crate::layout::Admin;
@@ -26,7 +27,8 @@ fn make_one<F: Folder>(
     admin: &Admin,
     item: &Work,
 ) -> Result<(), DiskFault>
-    ensures { (free : Path → Bool) → free (path_of item.now) ≡ true → Goes (is_placing admin.now.name free) (F.past folder.old) result (F.past folder.new) }
+    ensures steps { (free : Path → Bool) → free (path_of item.now) ≡ true → Goes (is_placing admin.now.name free) (F.past folder.old) result (F.past folder.new) }
+    ensures ends { OnOk result (Turns (IsOneMade item.now) (F.past folder.old) (F.past folder.new)) }
 {
     match item {
         Work::MakeDirectory(path) => make_directory_if_none(alloc, folder, path),
@@ -41,7 +43,8 @@ fn make_directories<F: Folder>(
     admin: &Admin,
     work: &[Work],
 ) -> Result<(), DiskFault>
-    ensures { (free : Path → Bool) → list_all (λ item. free (path_of item)) work.now ≡ true → Goes (is_placing admin.now.name free) (F.past folder.old) result (F.past folder.new) }
+    ensures steps { (free : Path → Bool) → list_all (λ item. free (path_of item)) work.now ≡ true → Goes (is_placing admin.now.name free) (F.past folder.old) result (F.past folder.new) }
+    ensures ends { OnOk result (Turns (AreMade work.now) (F.past folder.old) (F.past folder.new)) }
 {
     for item in work {
         make_one(alloc, folder, admin, item)?;
@@ -50,7 +53,9 @@ fn make_directories<F: Folder>(
 }
 
 /// How many files an item of work places.
-pub(crate) fn files_in(item: &Work) -> usize {
+pub(crate) fn files_in(item: &Work) -> usize
+    ensures { result ≡ files_of item.now }
+{
     match item {
         Work::InstallFile(_) => 1,
         Work::MakeDirectory(_) | Work::RemoveFile(_) | Work::RemoveDirectory(_) => 0,
@@ -65,7 +70,8 @@ fn place_one<F: Folder>(
     number: usize,
     item: &Work,
 ) -> Result<(), DiskFault>
-    ensures { (free : Path → Bool) → free (path_of item.now) ≡ true → Goes (is_placing admin.now.name free) (F.past folder.old) result (F.past folder.new) }
+    ensures steps { (free : Path → Bool) → free (path_of item.now) ≡ true → Goes (is_placing admin.now.name free) (F.past folder.old) result (F.past folder.new) }
+    ensures ends { OnOk result (Turns (IsOnePlaced admin.now.name number item.now) (F.past folder.old) (F.past folder.new)) }
 {
     match item {
         Work::InstallFile(path) => rename(folder, &admin.new_file(alloc, number)?, path),
@@ -80,7 +86,8 @@ fn place_files<F: Folder>(
     admin: &Admin,
     work: &[Work],
 ) -> Result<(), DiskFault>
-    ensures { (free : Path → Bool) → list_all (λ item. free (path_of item)) work.now ≡ true → Goes (is_placing admin.now.name free) (F.past folder.old) result (F.past folder.new) }
+    ensures steps { (free : Path → Bool) → list_all (λ item. free (path_of item)) work.now ≡ true → Goes (is_placing admin.now.name free) (F.past folder.old) result (F.past folder.new) }
+    ensures ends { admin.now.name ≡ codes ".svn" → list_all (λ item. is_outside (path_of item)) work.now ≡ true → AreDistinct work.now → OnOk result (Turns (λ before left. AreDirectories work.now before → ArePlaced (codes ".svn") 0 work.now before left) (F.past folder.old) (F.past folder.new)) }
 {
     let mut number = 0usize;
     for item in work {
@@ -120,7 +127,8 @@ pub(crate) fn carry_out<F: Folder>(
     work: &[Work],
     sync: bool,
 ) -> Result<(), DiskFault>
-    ensures { (free : Path → Bool) → list_all (λ item. free (path_of item)) work.now ≡ true → Goes (is_placing admin.now.name free) (F.past folder.old) result (F.past folder.new) }
+    ensures steps { (free : Path → Bool) → list_all (λ item. free (path_of item)) work.now ≡ true → Goes (is_placing admin.now.name free) (F.past folder.old) result (F.past folder.new) }
+    ensures ends { admin.now.name ≡ codes ".svn" → list_all (λ item. is_outside (path_of item)) work.now ≡ true → AreDistinct work.now → OnOk result (Turns (ArePlaced (codes ".svn") 0 work.now) (F.past folder.old) (F.past folder.new)) }
 {
     make_directories(alloc, folder, admin, work)?;
     place_files(alloc, folder, admin, work)?;

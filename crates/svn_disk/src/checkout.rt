@@ -1,11 +1,12 @@
 //! A working copy, made anew.
-ghost use Rattle.std.specs.Prelude.{◌≡◌, ◌∷◌, [], codes, true, false, IfOk, OnOk};
+ghost use Rattle.std.specs.Prelude.{◌≡◌, ℕ, List, ◌∷◌, [], codes, true, false, IfOk, OnOk};
 ghost use Rattle.std.specs.List.{list_any};
 ghost use Rattle.svn_wcrows.specs.Copies.{StandsFor};
 ghost use Rattle.svn_folder.specs.declared.step.Step.TheVariants.{RenameDirectory};
 ghost use Rattle.svn_folder.specs.States.{seen};
 ghost use Rattle.svn_folder.specs.Syncing.{IsSyncedPast};
-ghost use Rattle.svn_disk.specs.Crashes.{IsWhole, IsNoneOrWhole, IsFree, IsSafe, Leaves, LeavesAfter, Runs};
+ghost use Rattle.svn_disk.specs.Crashes.{IsWhole, IsNoneOrWhole, IsFree, IsSafe, OfText, Leaves, LeavesAfter, Runs};
+ghost use Rattle.svn_disk.specs.Ends.{Turns, AreAtPlaces, ArePlaced, AreReady, AreCopied, CopiesNode, IsHeld, number_after};
 ghost use Rattle.svn_disk.specs.Goes.{Goes, Does, TakesOne, IsAlways};
 ghost use Rattle.svn_disk.specs.Places.{is_inside, is_reserved, is_of_copy};
 ghost use Rattle.svn_disk.specs.Plans.{present_nodes, work_of};
@@ -143,7 +144,9 @@ fn make_admin<F: Folder>(alloc: Global, folder: &mut F, admin: &Admin) -> Result
 }
 
 impl Progress {
-    fn begin(alloc: Global, what: &Checkout<'_>) -> Result<Progress, DiskFault> {
+    fn begin(alloc: Global, what: &Checkout<'_>) -> Result<Progress, DiskFault>
+        ensures { IfOk result (λ progress. progress.files ≡ 0) }
+    {
         Ok(Progress {
             tables: Tables::new(alloc, what.url, what.uuid)?,
             texts: Texts::new(alloc),
@@ -158,7 +161,10 @@ impl Progress {
         source: &S,
         entry: (&RelPath, &BaseNode),
         size: Option<u64>,
-    ) -> Result<(), DiskFault> {
+    ) -> Result<(), DiskFault>
+        ensures texts { self.new.texts ≡ self.old.texts }
+        ensures files { self.new.files ≡ self.old.files }
+    {
         let (path, node) = entry;
         let change = match last_change(making.alloc, source, node) {
             Ok(change) => change,
@@ -200,7 +206,11 @@ fn prepare_file<F: Folder, S: Source>(
     progress: &mut Progress,
     entry: (&RelPath, &BaseNode),
 ) -> Result<(), DiskFault>
-    ensures { Goes (is_inside making.now.admin.now.name) (F.past folder.old) result (F.past folder.new) }
+    ensures steps { Goes (is_inside making.now.admin.now.name) (F.past folder.old) result (F.past folder.new) }
+    ensures files { OnOk result (progress.new.files ≡ number_after entry.entry.1.now progress.old.files) }
+    ensures held { OnOk result (OfText (IsHeld progress.new.texts.sizes.entries) entry.entry.1.now) }
+    ensures others { OnOk result ((name : List ℕ) → IsHeld progress.old.texts.sizes.entries name → IsHeld progress.new.texts.sizes.entries name) }
+    ensures ends { OnOk result (Turns (CopiesNode making.now.admin.now.name progress.old.files progress.old.texts.sizes.entries entry.entry.1.now) (F.past folder.old) (F.past folder.new)) }
 {
     let (path, node) = entry;
     let Some((name, props)) = file_of(node) else {
@@ -230,7 +240,11 @@ fn prepare_node<F: Folder, S: Source>(
     progress: &mut Progress,
     entry: (&RelPath, &BaseNode),
 ) -> Result<(), DiskFault>
-    ensures { Goes (is_inside making.now.admin.now.name) (F.past folder.old) result (F.past folder.new) }
+    ensures steps { Goes (is_inside making.now.admin.now.name) (F.past folder.old) result (F.past folder.new) }
+    ensures files { OnOk result (progress.new.files ≡ number_after entry.entry.1.now progress.old.files) }
+    ensures held { OnOk result (OfText (IsHeld progress.new.texts.sizes.entries) entry.entry.1.now) }
+    ensures others { OnOk result ((name : List ℕ) → IsHeld progress.old.texts.sizes.entries name → IsHeld progress.new.texts.sizes.entries name) }
+    ensures ends { OnOk result (Turns (CopiesNode making.now.admin.now.name progress.old.files progress.old.texts.sizes.entries entry.entry.1.now) (F.past folder.old) (F.past folder.new)) }
 {
     let (_, node) = entry;
     if !node.is_directory() {
@@ -246,8 +260,11 @@ fn prepare_all<F: Folder, S: Source>(
     source: &mut S,
     what: &Checkout<'_>,
 ) -> Result<Progress, DiskFault>
-    ensures { Goes (is_inside making.now.admin.now.name) (F.past folder.old) result (F.past folder.new) }
+    ensures steps { Goes (is_inside making.now.admin.now.name) (F.past folder.old) result (F.past folder.new) }
+    ensures ends { OnOk result (Turns (λ before left. AreCopied making.now.admin.now.name 0 what.now.copy.now left) (F.past folder.old) (F.past folder.new)) }
 {
+    // a map has fewer entries than a number counts
+    let _count = what.copy.nodes().len();
     let mut progress = Progress::begin(making.alloc, what)?;
     for (path, node) in what.copy.iter() {
         prepare_node(making, folder, source, &mut progress, (path, node))?;
@@ -301,6 +318,7 @@ fn lay_out<F: Folder, S: Source>(
 ) -> Result<LaidOut, DiskFault>
     ensures steps { Goes (is_inside admin.now.name) (F.past folder.old) result (F.past folder.new) }
     ensures image { IfOk result (λ laid. StandsFor contents.now.nodes.items laid.image) }
+    ensures ends { OnOk result (Turns (λ before left. AreCopied admin.now.name 0 what.now.copy.now left) (F.past folder.old) (F.past folder.new)) }
 {
     make_admin(alloc, folder, admin)?;
     let making = Making {
@@ -329,6 +347,7 @@ fn lay_out_on_disk<F: Folder, S: Source>(
     ensures steps { Goes (is_inside admin.now.name) (F.past folder.old.folder) result (F.past folder.new.folder) }
     ensures synced { what.now.sync ≡ true → OnOk result (IsSyncedPast (F.past folder.new.folder)) }
     ensures whole { OnOk result (IsAlways (λ s. IsWhole admin.now.name (present_nodes what.now.copy.now) (seen s)) (F.past folder.new.folder)) }
+    ensures ends { OnOk result (Turns (λ before left. AreReady admin.now.name 0 what.now.copy.now left) (F.past folder.old.folder) (F.past folder.new.folder)) }
 {
     let LaidOut { progress, image } = lay_out(alloc, folder, source, what, contents, admin)?;
     settle(alloc, folder, what.sync)?;
@@ -358,6 +377,7 @@ fn make_copy<F: Folder, S: Source>(
     ensures steps { Goes (is_of_copy what.now.copy.now) (F.past folder.old.folder) result (F.past folder.new.folder) }
     ensures crash { what.now.sync ≡ true → Runs IsFree (IsNoneOrWhole (present_nodes what.now.copy.now)) (IsSafe (codes ".svn") (present_nodes what.now.copy.now)) (F.past folder.old.folder) result (F.past folder.new.folder) }
     ensures image { IfOk result (λ image. StandsFor (present_nodes what.now.copy.now) image.items) }
+    ensures ends { OnOk result (Turns (λ before left. AreReady (codes ".svn") 0 what.now.copy.now left) (F.past folder.old.folder) (F.past folder.new.folder)) }
 {
     let admin = Admin::of_new(alloc)?;
     let mut progress = lay_out_on_disk(alloc, folder, source, what, contents, &admin)?;
@@ -379,7 +399,10 @@ fn finish_copy<F: Folder>(
     requires image { StandsFor (present_nodes what.now.copy.now) end.items }
     ensures steps { Goes (is_of_copy what.now.copy.now) (F.past folder.old) result (F.past folder.new) }
     ensures crash { what.now.sync ≡ true → Runs (IsSafe (codes ".svn") (present_nodes what.now.copy.now)) (IsNoneOrWhole (present_nodes what.now.copy.now)) (IsSafe (codes ".svn") (present_nodes what.now.copy.now)) (F.past folder.old) result (F.past folder.new) }
+    ensures ends { OnOk result (Turns (ArePlaced (codes ".svn") 0 (work_of what.now.copy.now)) (F.past folder.old) (F.past folder.new)) }
 {
+    // no two nodes are at one path
+    what.copy.law();
     let admin = Admin::of_copy(alloc)?;
     carry_out(alloc, folder, &admin, &contents.work, what.sync)?;
     replace_database(alloc, folder, &admin, end, what.sync)
@@ -400,8 +423,8 @@ pub fn refuse_check_out<F: Folder>(
 ///
 /// Refused before anything is changed: Reserved at the first node named `.svn`, ACopy where the folder is a working copy's, CutOff where a checkout was
 /// cut off, InTheWay at the first path of the copy in the folder itself that is taken. Then NoText at the first file whose text isn't given, NoStandIn
-/// where a text is no stand-in by SHA-1, Folder where a step fails, Rows, Path and Memory. Before the administrative folder has its name there is no
-/// copy; from then on there is the whole copy, with work left that `svn cleanup` does too: with `sync`, whenever the program or the power stops.
+/// where a text is no stand-in by SHA-1, Folder where a step fails, InTheWay where something came to be where a directory would be, Rows, Path and Memory.
+/// Before the administrative folder has its name there is no copy; from then on there is the whole copy, with work left that `svn cleanup` does too: with `sync`, whenever the program or the power stops.
 pub fn check_out<F: Folder, S: Source>(
     alloc: Global,
     folder: &mut SyncedFolder<F>,
@@ -411,7 +434,10 @@ pub fn check_out<F: Folder, S: Source>(
     ensures steps { Goes (is_of_copy what.now.copy.now) (F.past folder.old.folder) result (F.past folder.new.folder) }
     ensures crash { what.now.sync ≡ true → Leaves (IsNoneOrWhole (present_nodes what.now.copy.now)) (F.past folder.old.folder) (F.past folder.new.folder) }
     ensures after { what.now.sync ≡ true → OnOk result (LeavesAfter (IsWhole (codes ".svn") (present_nodes what.now.copy.now)) (F.past folder.old.folder) (F.past folder.new.folder)) }
+    ensures ends { OnOk result (Turns (λ before left. AreAtPlaces what.now.copy.now left) (F.past folder.old.folder) (F.past folder.new.folder)) }
 {
+    // no two nodes are at one path, and the root is a directory
+    what.copy.law();
     refuse_reserved(what.copy)?;
     refuse_taken(alloc, folder, what.copy)?;
     let contents = Contents::of(alloc, what.copy)?;

@@ -3,10 +3,13 @@ ghost use Rattle.std.specs.Prelude.{◌≡◌, ◌⊎◌, List, true, codes, IfO
 ghost use Rattle.std.specs.List.{list_all};
 ghost use Rattle.svn_types.specs.Names.{Path};
 ghost use Rattle.svn_model.specs.declared.base_node.BaseNode.{BaseNode};
-ghost use Rattle.svn_disk.specs.Goes.{Goes};
+ghost use Rattle.svn_wcrows.specs.Tables.{AllRows};
+ghost use Rattle.svn_disk.specs.Goes.{Goes, IsAlways};
 ghost use Rattle.svn_disk.specs.Places.{is_inside, is_temporary, is_outside, is_doing};
 ghost use Rattle.svn_disk.specs.Plans.{path_of};
 ghost use Rattle.svn_disk.specs.Crashes.{IsThere, IsWhole, IsSafe, IsKept, AreOfNodes, LeavesFrom, AfterFrom, Runs};
+ghost use Rattle.svn_disk.specs.Queue.{HasDatabaseRows, is_queued};
+ghost use Rattle.svn_disk.specs.Spared.{GoesIn, Spares, texts_in};
 
 use crate::above::above_of;
 use crate::carry::files_in;
@@ -279,7 +282,8 @@ impl Again<'_> {
 
 // The work of this library that a copy has left. Foreign where it is none.
 fn task_of(alloc: Global, existing: &Existing) -> Result<Task, DiskFault>
-    ensures { IfOk result (λ task. list_all (λ item. is_outside (path_of item)) task.work.items ≡ true) }
+    ensures outside { IfOk result (λ task. list_all (λ item. is_outside (path_of item)) task.work.items ≡ true) }
+    ensures queue { IfOk result (λ task. list_all (λ item. is_queued existing.now.tables.work_queue.items (path_of item)) task.work.items ≡ true) }
 {
     if !existing.numbers.is_marked() {
         return Err(DiskFault::Foreign);
@@ -329,6 +333,8 @@ fn complete<F: Folder>(
     sync: bool,
 ) -> Result<(), DiskFault>
     ensures steps { Goes (is_doing (codes ".svn") is_outside) (F.past folder.old) result (F.past folder.new) }
+    ensures queue { Goes (is_doing (codes ".svn") (is_queued existing.tables.work_queue.items)) (F.past folder.old) result (F.past folder.new) }
+    ensures spares { GoesIn (Spares (texts_in existing.tables.pristine.items) (codes ".svn")) (F.past folder.old) result (F.past folder.new) }
     ensures crash { sync ≡ true → Runs (IsSafe (codes ".svn") existing.nodes.items) (IsWhole (codes ".svn") existing.nodes.items) (IsSafe (codes ".svn") existing.nodes.items) (F.past folder.old) result (F.past folder.new) }
 {
     let task = task_of(alloc, &existing)?;
@@ -360,6 +366,8 @@ fn complete_if_busy<F: Folder>(
     sync: bool,
 ) -> Result<Resumed, DiskFault>
     ensures steps { Goes (is_doing (codes ".svn") is_outside) (F.past folder.old) result (F.past folder.new) }
+    ensures queue { Goes (is_doing (codes ".svn") (is_queued existing.tables.work_queue.items)) (F.past folder.old) result (F.past folder.new) }
+    ensures spares { GoesIn (Spares (texts_in existing.tables.pristine.items) (codes ".svn")) (F.past folder.old) result (F.past folder.new) }
     ensures crash { sync ≡ true → Runs (IsSafe (codes ".svn") existing.nodes.items) (IsWhole (codes ".svn") existing.nodes.items) (IsSafe (codes ".svn") existing.nodes.items) (F.past folder.old) result (F.past folder.new) }
 {
     if !existing.is_busy() {
@@ -378,6 +386,8 @@ fn complete_if_busy<F: Folder>(
 /// whenever the program or the power stops.
 pub fn resume<F: Folder>(alloc: Global, folder: &mut F, sync: bool) -> Result<Resumed, DiskFault>
     ensures steps { Goes (is_inside (codes ".svn-new")) (F.past folder.old) result (F.past folder.new) ⊎ Goes (is_doing (codes ".svn") is_outside) (F.past folder.old) result (F.past folder.new) }
+    ensures queue { (rows : AllRows) → IsAlways (HasDatabaseRows rows) (F.past folder.old) → Goes (is_inside (codes ".svn-new")) (F.past folder.old) result (F.past folder.new) ⊎ Goes (is_doing (codes ".svn") (is_queued rows.work_queue)) (F.past folder.old) result (F.past folder.new) }
+    ensures spares { (rows : AllRows) → IsAlways (HasDatabaseRows rows) (F.past folder.old) → Goes (is_inside (codes ".svn-new")) (F.past folder.old) result (F.past folder.new) ⊎ GoesIn (Spares (texts_in rows.pristine) (codes ".svn")) (F.past folder.old) result (F.past folder.new) }
     ensures crash { sync ≡ true → (copy : List (Path × BaseNode)) → LeavesFrom (IsKept copy) (IsThere copy) (F.past folder.old) (F.past folder.new) }
     ensures after { sync ≡ true → (copy : List (Path × BaseNode)) → OnOk result (AfterFrom (IsKept copy) (IsThere copy) (F.past folder.old) (F.past folder.new)) }
 {

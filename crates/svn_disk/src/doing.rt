@@ -4,11 +4,16 @@ ghost use Rattle.std.specs.List.{list_all};
 ghost use Rattle.svn_types.specs.Names.{Path};
 ghost use Rattle.svn_model.specs.declared.base_node.BaseNode.{BaseNode};
 ghost use Rattle.svn_wcrows.specs.Copies.{StandsFor};
+ghost use Rattle.svn_folder.specs.Entries.{has_directory};
+ghost use Rattle.svn_folder.specs.States.{seen};
+ghost use Rattle.svn_folder.specs.Steps.{IsEmpty};
 ghost use Rattle.svn_folder.specs.Files.{is_sync};
-ghost use Rattle.svn_disk.specs.Goes.{Goes};
+ghost use Rattle.svn_disk.specs.Goes.{Goes, IsAlways};
 ghost use Rattle.svn_disk.specs.Places.{is_inside, is_outside, is_changing, is_doing};
 ghost use Rattle.svn_disk.specs.Plans.{path_of};
 ghost use Rattle.svn_disk.specs.Crashes.{IsSafe, IsWhole, AreOfNodes, Runs};
+ghost use Rattle.svn_disk.specs.Spared.{GoesIn, Spares};
+ghost use Rattle.svn_disk.specs.Finding.{has_word};
 
 use crate::carry::{files_in, parents, replace_database};
 use crate::database_image::Images;
@@ -76,7 +81,9 @@ impl Databases {
 }
 
 // Whether nothing is in a directory. A name that no path may have is something.
-fn is_empty<F: Folder>(alloc: Global, folder: &F, path: &RelPath) -> Result<bool, DiskFault> {
+fn is_empty<F: Folder>(alloc: Global, folder: &F, path: &RelPath) -> Result<bool, DiskFault>
+    ensures { IfOk result (λ is. is ≡ true → IsAlways (λ s. IsEmpty s path.now) (F.past folder.now)) }
+{
     match folder.list(alloc, path) {
         Ok(names) => Ok(names.is_empty()),
         Err(FolderFault::Path(_)) => Ok(false),
@@ -89,7 +96,9 @@ fn is_empty_directory<F: Folder>(
     alloc: Global,
     folder: &F,
     path: &RelPath,
-) -> Result<bool, DiskFault> {
+) -> Result<bool, DiskFault>
+    ensures { IfOk result (λ is. is ≡ true → IsAlways (λ s. (has_directory (seen s path.now) ≡ true) × IsEmpty s path.now) (F.past folder.now)) }
+{
     match find(alloc, folder, path)? {
         Found::Directory => is_empty(alloc, folder, path),
         Found::Nothing | Found::Leaf(_) => Ok(false),
@@ -99,7 +108,8 @@ fn is_empty_directory<F: Folder>(
 impl Doing<'_> {
     // Removes a file or a link that is the copy's, if one is there.
     fn remove_file<F: Folder>(&self, folder: &mut F, path: &RelPath) -> Result<(), DiskFault>
-        ensures { (free : Path → Bool) → free path.now ≡ true → Goes (is_changing self.now.admin.now.name free) (F.past folder.old) result (F.past folder.new) }
+        ensures steps { (free : Path → Bool) → free path.now ≡ true → Goes (is_changing self.now.admin.now.name free) (F.past folder.old) result (F.past folder.new) }
+        ensures spares { GoesIn (Spares (has_word self.now.known.now) self.now.admin.now.name) (F.past folder.old) result (F.past folder.new) }
     {
         if self.known.is_own_leaf(self.alloc, folder, path)? {
             return take(folder, Step::RemoveFile(path.clone()?));
@@ -109,7 +119,8 @@ impl Doing<'_> {
 
     // Removes a directory, if one is there. With something in it that isn't the copy's it stays.
     fn remove_directory<F: Folder>(&self, folder: &mut F, path: &RelPath) -> Result<(), DiskFault>
-        ensures { (free : Path → Bool) → free path.now ≡ true → Goes (is_changing self.now.admin.now.name free) (F.past folder.old) result (F.past folder.new) }
+        ensures steps { (free : Path → Bool) → free path.now ≡ true → Goes (is_changing self.now.admin.now.name free) (F.past folder.old) result (F.past folder.new) }
+        ensures spares { GoesIn (Spares (has_word self.now.known.now) self.now.admin.now.name) (F.past folder.old) result (F.past folder.new) }
     {
         if is_empty_directory(self.alloc, folder, path)? {
             return take(folder, Step::RemoveDirectory(path.clone()?));
@@ -119,7 +130,8 @@ impl Doing<'_> {
 
     // Removes what goes, if it is something that does.
     fn remove_one<F: Folder>(&self, folder: &mut F, item: &Work) -> Result<(), DiskFault>
-        ensures { (free : Path → Bool) → free (path_of item.now) ≡ true → Goes (is_changing self.now.admin.now.name free) (F.past folder.old) result (F.past folder.new) }
+        ensures steps { (free : Path → Bool) → free (path_of item.now) ≡ true → Goes (is_changing self.now.admin.now.name free) (F.past folder.old) result (F.past folder.new) }
+        ensures spares { GoesIn (Spares (has_word self.now.known.now) self.now.admin.now.name) (F.past folder.old) result (F.past folder.new) }
     {
         match item {
             Work::RemoveFile(path) => self.remove_file(folder, path),
@@ -130,7 +142,8 @@ impl Doing<'_> {
 
     // Removes all that goes.
     fn remove_all<F: Folder>(&self, folder: &mut F) -> Result<(), DiskFault>
-        ensures { (free : Path → Bool) → list_all (λ item. free (path_of item)) self.now.task.now.work.items ≡ true → Goes (is_changing self.now.admin.now.name free) (F.past folder.old) result (F.past folder.new) }
+        ensures steps { (free : Path → Bool) → list_all (λ item. free (path_of item)) self.now.task.now.work.items ≡ true → Goes (is_changing self.now.admin.now.name free) (F.past folder.old) result (F.past folder.new) }
+        ensures spares { GoesIn (Spares (has_word self.now.known.now) self.now.admin.now.name) (F.past folder.old) result (F.past folder.new) }
     {
         let removals = self.task.removals();
         for item in removals {
@@ -141,7 +154,8 @@ impl Doing<'_> {
 
     // Makes a directory that comes.
     fn make_one<F: Folder>(&self, folder: &mut F, item: &Work) -> Result<(), DiskFault>
-        ensures { (free : Path → Bool) → free (path_of item.now) ≡ true → Goes (is_changing self.now.admin.now.name free) (F.past folder.old) result (F.past folder.new) }
+        ensures steps { (free : Path → Bool) → free (path_of item.now) ≡ true → Goes (is_changing self.now.admin.now.name free) (F.past folder.old) result (F.past folder.new) }
+        ensures spares { GoesIn (Spares (has_word self.now.known.now) self.now.admin.now.name) (F.past folder.old) result (F.past folder.new) }
     {
         match item {
             Work::MakeDirectory(path) => make_directory_if_none(self.alloc, folder, path),
@@ -151,7 +165,8 @@ impl Doing<'_> {
 
     // Makes all directories that come.
     fn make_directories<F: Folder>(&self, folder: &mut F, work: &[Work]) -> Result<(), DiskFault>
-        ensures { (free : Path → Bool) → list_all (λ item. free (path_of item)) work.now ≡ true → Goes (is_changing self.now.admin.now.name free) (F.past folder.old) result (F.past folder.new) }
+        ensures steps { (free : Path → Bool) → list_all (λ item. free (path_of item)) work.now ≡ true → Goes (is_changing self.now.admin.now.name free) (F.past folder.old) result (F.past folder.new) }
+        ensures spares { GoesIn (Spares (has_word self.now.known.now) self.now.admin.now.name) (F.past folder.old) result (F.past folder.new) }
     {
         for item in work {
             self.make_one(folder, item)?;
@@ -166,7 +181,8 @@ impl Doing<'_> {
         path: &RelPath,
         number: usize,
     ) -> Result<(), DiskFault>
-        ensures { (free : Path → Bool) → free path.now ≡ true → Goes (is_changing self.now.admin.now.name free) (F.past folder.old) result (F.past folder.new) }
+        ensures steps { (free : Path → Bool) → free path.now ≡ true → Goes (is_changing self.now.admin.now.name free) (F.past folder.old) result (F.past folder.new) }
+        ensures spares { GoesIn (Spares (has_word self.now.known.now) self.now.admin.now.name) (F.past folder.old) result (F.past folder.new) }
     {
         self.known.is_own_leaf(self.alloc, folder, path)?;
         rename(folder, &self.admin.new_file(self.alloc, number)?, path)
@@ -179,7 +195,8 @@ impl Doing<'_> {
         item: &Work,
         number: usize,
     ) -> Result<(), DiskFault>
-        ensures { (free : Path → Bool) → free (path_of item.now) ≡ true → Goes (is_changing self.now.admin.now.name free) (F.past folder.old) result (F.past folder.new) }
+        ensures steps { (free : Path → Bool) → free (path_of item.now) ≡ true → Goes (is_changing self.now.admin.now.name free) (F.past folder.old) result (F.past folder.new) }
+        ensures spares { GoesIn (Spares (has_word self.now.known.now) self.now.admin.now.name) (F.past folder.old) result (F.past folder.new) }
     {
         match item {
             Work::InstallFile(path) => self.place(folder, path, number),
@@ -189,7 +206,8 @@ impl Doing<'_> {
 
     // Gives all files that come their places, of which each has the next name of its own.
     fn place_files<F: Folder>(&self, folder: &mut F, work: &[Work]) -> Result<(), DiskFault>
-        ensures { (free : Path → Bool) → list_all (λ item. free (path_of item)) work.now ≡ true → Goes (is_changing self.now.admin.now.name free) (F.past folder.old) result (F.past folder.new) }
+        ensures steps { (free : Path → Bool) → list_all (λ item. free (path_of item)) work.now ≡ true → Goes (is_changing self.now.admin.now.name free) (F.past folder.old) result (F.past folder.new) }
+        ensures spares { GoesIn (Spares (has_word self.now.known.now) self.now.admin.now.name) (F.past folder.old) result (F.past folder.new) }
     {
         let mut number = 0usize;
         for item in work {
@@ -201,7 +219,8 @@ impl Doing<'_> {
 
     // Makes all that comes.
     fn make_all<F: Folder>(&self, folder: &mut F) -> Result<(), DiskFault>
-        ensures { (free : Path → Bool) → list_all (λ item. free (path_of item)) self.now.task.now.work.items ≡ true → Goes (is_changing self.now.admin.now.name free) (F.past folder.old) result (F.past folder.new) }
+        ensures steps { (free : Path → Bool) → list_all (λ item. free (path_of item)) self.now.task.now.work.items ≡ true → Goes (is_changing self.now.admin.now.name free) (F.past folder.old) result (F.past folder.new) }
+        ensures spares { GoesIn (Spares (has_word self.now.known.now) self.now.admin.now.name) (F.past folder.old) result (F.past folder.new) }
     {
         let makings = self.task.makings();
         self.make_directories(folder, makings)?;
@@ -270,7 +289,7 @@ impl Doing<'_> {
     }
 
     /// Does the work of a copy whose database has it as its queue, and whose files that come have names of their own. Changed where a file was edited since
-    /// the work was begun: it is left then, and so is what follows.
+    /// the work was begun, and InTheWay where something came to be where a directory would be: it is left then, and so is what follows.
     pub(crate) fn carry_on<F: Folder>(
         &self,
         folder: &mut F,
@@ -279,6 +298,7 @@ impl Doing<'_> {
         requires name { self.now.admin.now.name ≡ codes ".svn" }
         requires outside { list_all (λ item. is_outside (path_of item)) self.now.task.now.work.items ≡ true }
         ensures steps { (free : Path → Bool) → list_all (λ item. free (path_of item)) self.now.task.now.work.items ≡ true → Goes (is_doing (codes ".svn") free) (F.past folder.old) result (F.past folder.new) }
+        ensures spares { GoesIn (Spares (has_word self.now.known.now) (codes ".svn")) (F.past folder.old) result (F.past folder.new) }
         ensures crash { self.now.sync ≡ true → (nodes : List (Path × BaseNode)) → AreOfNodes nodes databases → Runs (IsSafe (codes ".svn") nodes) (IsWhole (codes ".svn") nodes) (IsSafe (codes ".svn") nodes) (F.past folder.old) result (F.past folder.new) }
     {
         let Databases { middle, end } = databases;

@@ -1,10 +1,12 @@
 //! A working copy that is on disk: its tables and its base tree.
-ghost use Rattle.std.specs.Prelude.{◌≡◌, codes, IfOk};
+ghost use Rattle.std.specs.Prelude.{◌≡◌, codes, Ok, IfOk};
 ghost use Rattle.svn_wcrows.specs.Copies.{StandsFor};
+ghost use Rattle.svn_wcrows.specs.Tables.{seen_tables, tables_of};
 ghost use Rattle.svn_folder.specs.States.{seen};
 ghost use Rattle.svn_disk.specs.Goes.{IsAlways};
 ghost use Rattle.svn_disk.specs.Places.{database_place};
 ghost use Rattle.svn_disk.specs.Crashes.{AreNodesOf, IsDatabaseOf};
+ghost use Rattle.svn_disk.specs.Queue.{HasDatabaseRows};
 
 use crate::contents::copy_of;
 use crate::database_image::Images;
@@ -138,6 +140,7 @@ impl Existing {
     fn of_bytes(alloc: Global, database: Text) -> Result<Existing, DiskFault>
         ensures nodes { IfOk result (λ existing. AreNodesOf existing.copy existing.nodes.items) }
         ensures stands { IfOk result (λ existing. StandsFor existing.nodes.items database) }
+        ensures tables { IfOk result (λ existing. tables_of database ≡ Ok (seen_tables existing.tables)) }
     {
         let tree = read_base_tree(alloc, database.as_slice())?;
         let copy = copy_of(alloc, &tree.nodes)?;
@@ -154,6 +157,7 @@ impl Existing {
     ) -> Result<Existing, DiskFault>
         ensures copy { IfOk result (λ existing. existing.copy ≡ copy) }
         ensures nodes { IfOk result (λ existing. existing.nodes.items ≡ tree.nodes.items) }
+        ensures tables { IfOk result (λ existing. tables_of database ≡ Ok (seen_tables existing.tables)) }
     {
         let tables = read_tables(alloc, database.as_slice())?;
         let BaseTree { origin, nodes, .. } = tree;
@@ -174,6 +178,7 @@ impl Existing {
     pub fn read<F: Folder>(alloc: Global, folder: &F) -> Result<Existing, DiskFault>
         ensures nodes { IfOk result (λ existing. AreNodesOf existing.copy existing.nodes.items) }
         ensures database { IfOk result (λ existing. IsAlways (λ s. IsDatabaseOf existing.nodes.items (seen s (database_place (codes ".svn")))) (F.past folder.now)) }
+        ensures rows { IfOk result (λ existing. IsAlways (HasDatabaseRows (seen_tables existing.tables)) (F.past folder.now)) }
     {
         let admin = Admin::of_copy(alloc)?;
         let path = admin.database(alloc)?;

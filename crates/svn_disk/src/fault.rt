@@ -16,7 +16,8 @@ use thiserror::Error;
 /// Why a working copy isn't brought to disk.
 #[derive(Debug, Drop, Error)]
 pub enum DiskFault {
-    /// Something is at a path where the copy would put a node. Nothing was changed.
+    /// Something is at a path where the copy would put a node. Nothing was changed; or, if it is where a directory would be made, and came there since the work
+    /// was begun, what is left of the work waits.
     #[error("{0}: something is in the way")]
     InTheWay(RelPath),
     /// A file that would change was edited: what is on disk isn't the text of the copy. Nothing was changed; or, if it was edited since the work was begun, what is

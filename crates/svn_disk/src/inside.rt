@@ -1,9 +1,10 @@
 //! Steps in the administrative folder.
-ghost use Rattle.std.specs.Prelude.{◌≡◌, ◌∷◌, [], true};
+ghost use Rattle.std.specs.Prelude.{◌≡◌, ◌∷◌, [], true, Some, OnOk};
 ghost use Rattle.svn_types.specs.Paths.{is_within};
 ghost use Rattle.svn_disk.specs.Goes.{Goes};
 ghost use Rattle.svn_disk.specs.Places.{is_inside, is_temporary, temporary_place};
 ghost use Rattle.svn_disk.specs.Crashes.{IsAdding};
+ghost use Rattle.svn_disk.specs.Ends.{Turns, IsPut, Stays, IsSameBut, CopiesText};
 
 use crate::fault::DiskFault;
 use crate::layout::Admin;
@@ -22,7 +23,8 @@ impl Admin {
         entry: Entry,
     ) -> Result<(), DiskFault>
         requires { is_within (self.now.name ∷ []) path ≡ true }
-        ensures { Goes (is_inside self.now.name) (F.past folder.old) result (F.past folder.new) }
+        ensures steps { Goes (is_inside self.now.name) (F.past folder.old) result (F.past folder.new) }
+        ensures ends { OnOk result (Turns (IsPut path (Some entry)) (F.past folder.old) (F.past folder.new)) }
     {
         steps::make(folder, path, entry)
     }
@@ -35,7 +37,8 @@ impl Admin {
         path: &RelPath,
     ) -> Result<(), DiskFault>
         requires { is_within (self.now.name ∷ []) path.now ≡ true }
-        ensures { IsAdding self.now.name (F.past folder.old) result (F.past folder.new) }
+        ensures adds { IsAdding self.now.name (F.past folder.old) result (F.past folder.new) }
+        ensures stays { OnOk result (Turns Stays (F.past folder.old) (F.past folder.new)) }
     {
         steps::make_directory_if_none(alloc, folder, path)
     }
@@ -50,7 +53,8 @@ impl Admin {
         source: &mut S,
     ) -> Result<(), DiskFault>
         requires { is_within (temporary_place self.now.name) path.now ≡ true }
-        ensures { Goes (is_temporary self.now.name) (F.past folder.old) result (F.past folder.new) }
+        ensures steps { Goes (is_temporary self.now.name) (F.past folder.old) result (F.past folder.new) }
+        ensures others { OnOk result (Turns (IsSameBut path.now) (F.past folder.old) (F.past folder.new)) }
     {
         Ok(folder.make_file(alloc, path, mode, None, source)?)
     }
@@ -66,7 +70,8 @@ impl Admin {
         modified: Option<u64>,
     ) -> Result<(), DiskFault>
         requires { is_within (temporary_place self.now.name) to.now ≡ true }
-        ensures { Goes (is_temporary self.now.name) (F.past folder.old) result (F.past folder.new) }
+        ensures steps { Goes (is_temporary self.now.name) (F.past folder.old) result (F.past folder.new) }
+        ensures ends { OnOk result (Turns (CopiesText from.now to.now) (F.past folder.old) (F.past folder.new)) }
     {
         Ok(folder.copy_file(alloc, from, to, mode, modified)?)
     }

@@ -3,6 +3,7 @@ ghost use Rattle.std.specs.Prelude.{◌≡◌, ◌∷◌, ◌++◌, [], true, If
 ghost use Rattle.svn_types.specs.Names.{path_of_text};
 ghost use Rattle.svn_digits.specs.StandIns.{is_stand_in};
 ghost use Rattle.svn_disk.specs.Places.{text_place, database_place, new_database_place, temporary_place, is_reserved, is_outside, IsTemporary};
+ghost use Rattle.svn_disk.specs.Ends.{own_place, new_text_place};
 
 use crate::fault::DiskFault;
 use std::alloc::Global;
@@ -126,14 +127,15 @@ impl Admin {
 
     /// A pristine text, before it has its name.
     pub(crate) fn new_text(&self, alloc: Global) -> Result<RelPath, DiskFault>
-        ensures { IfOk result (λ p. p ≡ self.now.name ∷ codes "tmp" ∷ codes "new-text" ∷ []) }
+        ensures { IfOk result (λ p. p ≡ new_text_place self.now.name) }
     {
         self.path(alloc, "tmp/new-text")
     }
 
     /// The file of that number, before it has its place.
     pub(crate) fn new_file(&self, alloc: Global, number: usize) -> Result<RelPath, DiskFault>
-        ensures { IfOk result (λ p. IsTemporary self.now.name p) }
+        ensures temporary { IfOk result (λ p. IsTemporary self.now.name p) }
+        ensures place { IfOk result (λ p. p ≡ own_place self.now.name number) }
     {
         let text = format!(in alloc; "new-{number}")?;
         let name = Name::parse(alloc, &text)?;

@@ -36,25 +36,33 @@
 //! | `laws` | what the crash theorem rests on, of a rename |
 //!
 //! Definitions, in the order of reading: `specs/Goes.antt` (which steps a call takes), `Places.antt` (where they are), `Plans.antt` (what is written of a
-//! copy), `Crashes.antt` (what a crash leaves during a checkout, a change and a completion), `Laws.antt`.
+//! copy), `Crashes.antt` (what a crash leaves during a checkout, a change and a completion), `Ends.antt` (what a folder shows once a call is over),
+//! `Readings.antt` (what text of a repository a file on disk may be), `Spared.antt` (what a step replaces or removes), `Queue.antt` (what work is about),
+//! `Laws.antt`.
 //!
 //! Promises: every function is safe and returns. Each step of [`check_out`] is inside of `.svn-new` or `.svn`, is the rename of the one to the other, or
 //! makes or places a node of the copy (`is_of_copy`), so that nothing else is changed (`a_checkout_changes_nothing_else`). With `sync`, in a folder that is
 //! all on the disk and has no copy, a crash at any moment of it leaves no copy, or the whole one (`Leaves`, `IsNoneOrWhole`), and once it has returned Ok
 //! the whole one (`LeavesAfter`): at `.svn/wc.db` a file whose bytes stand for a copy with just these nodes, and of each file the pristine text, by its
-//! checksum (`IsWhole`).
+//! checksum (`IsWhole`). Once it has returned Ok each node of the copy but its root is at its place, with `sync` or without (`AreAtPlaces`): a directory; or a
+//! file with its text, byte for byte, or the link that the text says, each by the checksum of the text.
 //!
 //! Each step of [`bring`] is inside of `.svn`, or makes a directory, places what had no name yet, or removes a file or a directory, at the path of a node of
 //! the old copy or of the new one (`is_of_change`), so that nothing else is changed (`a_change_changes_nothing_else`). With `sync`, where the old copy is on
 //! the disk with each of its texts (`IsKept`), a crash at any moment of it leaves the old copy or the new one, with each of its texts (`IsOldOrNew`,
 //! `IsThere`), and once it has returned Ok the new one. [`mend`] promises the same: its steps are those of a change from the copy that is there to one
 //! that is true of the repository (`IsMending`), and a crash leaves the copy that was there or one that is true (`IsThereOrTrue`). A step of [`resume`] is
-//! inside of `.svn-new`, or it is inside of `.svn`, or makes, places or removes something outside of it; with `sync` a copy that is on the disk stays
-//! there. The copy that [`mended`] returns is true of the repository (`IsTrueOf`).
+//! inside of `.svn-new`, or it is inside of `.svn`, or makes, places or removes something at the path of an item of the work queue that the database had
+//! (`is_queued`); with `sync` a copy that is on the disk stays there. The copy that [`mended`] returns is true of the repository (`IsTrueOf`).
+//!
+//! What somebody edited is spared. Outside of `.svn`, [`bring`], [`mend`] and [`resume`] replace or remove only files and links with a text that is known, as it
+//! is or without values of keywords and with other line ends (`IsReading`), and directories with nothing in them (`Spares`): any other file or link stays as
+//! it is (`what_has_no_known_text_stays`). The texts that are known are those that the folder's database had rows of (`texts_in`), and, of [`bring`] and
+//! [`mend`], those of the new copy (`texts_of_either`).
 //!
 //! A crash is one of `svn_folder`, so this is said of folders whose steps are known; of a folder of the system no contract speaks. Not proved, and tested by
-//! `test_disk` at each step: that the files of the copy are at their places in the end, that a file that was edited is never replaced, and that the work
-//! which a crash leaves is all that is left to do.
+//! `test_disk` at each step: that after a change, a mend and a completion the files of the copy are at their places, that a checkout replaces no file, and
+//! that the work which a crash leaves is all that is left to do.
 #![tactic(auto)]
 
 mod above;
@@ -102,6 +110,7 @@ pub use fault::{DiskFault, OtherRepository};
 pub use inherited::inherited_props;
 pub use laws::{
     a_change_changes_nothing_else, a_checkout_changes_nothing_else, a_directory_is_renamed_at_once,
+    what_has_no_known_text_stays,
 };
 pub use mending::{Remedy, mend, mend_changes};
 pub use missing::missing_nodes;

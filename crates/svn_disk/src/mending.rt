@@ -3,7 +3,10 @@ ghost use Rattle.std.specs.Prelude.{◌≡◌, ◌⊎◌, List, true, IfOk, OnOk
 ghost use Rattle.svn_types.specs.Names.{Path};
 ghost use Rattle.svn_model.specs.declared.base_node.BaseNode.{BaseNode};
 ghost use Rattle.svn_model.specs.Nodes.{get_in, IsTrueOf};
-ghost use Rattle.svn_disk.specs.Goes.{IsAlways};
+ghost use Rattle.svn_wcrows.specs.Tables.{AllRows, seen_tables};
+ghost use Rattle.svn_disk.specs.Goes.{IsAlways, Goes, no_step};
+ghost use Rattle.svn_disk.specs.Queue.{HasDatabaseRows};
+ghost use Rattle.svn_disk.specs.Spared.{GoesIn, SparesOthers};
 ghost use Rattle.svn_disk.specs.Crashes.{HasDatabase, IsThere, IsTrueThere, IsThereOrTrue, IsKept, IsMending, LeavesFrom, AfterFrom};
 
 use crate::bringing::{bring, changes};
@@ -38,6 +41,7 @@ fn begin<F: Folder>(
 ) -> Result<(Existing, Wanted), DiskFault>
     ensures was { IfOk result (λ pair. IsAlways (HasDatabase pair.0.copy) (F.past folder.now)) }
     ensures is_true { IfOk result (λ pair. IsTrueOf what.now.repo.now (get_in pair.1.copy)) }
+    ensures rows { IfOk result (λ pair. IsAlways (HasDatabaseRows (seen_tables pair.0.tables)) (F.past folder.now)) }
 {
     let existing = Existing::read(alloc, folder)?;
     existing.refuse_busy()?;
@@ -73,6 +77,7 @@ pub fn mend<F: Folder, S: Source>(
     what: &Remedy<'_>,
 ) -> Result<Vec<PathChange>, DiskFault>
     ensures steps { IsMending what.now.repo.now (F.past folder.old.folder) result (F.past folder.new.folder) }
+    ensures spares { (rows : AllRows) → IsAlways (HasDatabaseRows rows) (F.past folder.old.folder) → Goes no_step (F.past folder.old.folder) result (F.past folder.new.folder) ⊎ SparesOthers what.now.repo.now rows.pristine (λ P. GoesIn P (F.past folder.old.folder) result (F.past folder.new.folder)) }
     ensures crash { what.now.sync ≡ true → (copy : List (Path × BaseNode)) → LeavesFrom (IsKept copy) (IsThereOrTrue copy what.now.repo.now) (F.past folder.old.folder) (F.past folder.new.folder) }
     ensures after { what.now.sync ≡ true → (copy : List (Path × BaseNode)) → OnOk result (AfterFrom (IsKept copy) (IsTrueThere what.now.repo.now) (F.past folder.old.folder) (F.past folder.new.folder)) }
 {

@@ -1,5 +1,5 @@
 //! What a file of a working copy is on disk, by its text and its properties (`svn_props.h`).
-ghost use Rattle.std.specs.Prelude.{◌≡◌};
+ghost use Rattle.std.specs.Prelude.{◌≡◌, ◌++◌, codes, IfOk, IfSome};
 ghost use Rattle.std.specs.Option.{option_map};
 ghost use Rattle.svn_disk.specs.Plans.{text_of_node};
 
@@ -61,7 +61,9 @@ pub(crate) fn is_special(props: &Props) -> bool {
 }
 
 /// The target of the symbolic link that a text says, if it does.
-pub(crate) fn link_target(alloc: Global, text: &Text) -> Result<Option<Text>, AllocError> {
+pub(crate) fn link_target(alloc: Global, text: &Text) -> Result<Option<Text>, AllocError>
+    ensures { IfOk result (λ found. IfSome found (λ target. text.now ≡ codes "link " ++ target)) }
+{
     match text.as_slice().strip_prefix(LINK) {
         Some(target) => Ok(Some(Text::from_slice(alloc, target)?)),
         None => Ok(None),

@@ -1,8 +1,10 @@
 //! What is on disk, compared with a copy.
-ghost use Rattle.std.specs.Prelude.{IfOk, MatchOption, ⊤};
+ghost use Rattle.std.specs.Prelude.{◌≡◌, IfOk, MatchOption, ⊤};
 ghost use Rattle.svn_folder.specs.States.{seen};
 ghost use Rattle.svn_disk.specs.Goes.{IsAlways};
 ghost use Rattle.svn_disk.specs.Crashes.{HasBytes};
+ghost use Rattle.svn_disk.specs.Spared.{link_text};
+ghost use Rattle.svn_disk.specs.Finding.{IsFound, SumsTo, AreReadings};
 
 use crate::fault::DiskFault;
 use crate::node_file::{LINK, file_of, is_translated_on_disk, text_of};
@@ -25,27 +27,29 @@ pub(crate) enum Found {
 }
 
 // The text of a link as the repository has it.
-fn link_text(alloc: Global, target: &Text) -> Result<Vec<u8>, DiskFault> {
+fn link_text(alloc: Global, target: &Text) -> Result<Vec<u8>, DiskFault>
+    ensures { IfOk result (λ text. text.items ≡ link_text target.now) }
+{
     let mut text = Vec::from_slice(alloc, LINK)?;
     text.extend_from_slice(target.as_slice())?;
     Ok(text)
 }
 
 // What a summary is of.
-fn found_of(alloc: Global, summary: &Summary) -> Result<Found, DiskFault> {
-    Ok(match summary {
-        Summary::Directory => Found::Directory,
-        Summary::File { sha1, .. } => Found::Leaf(stand_in_of(alloc, &sha1.0)?),
-        Summary::Link(target) => Found::Leaf(stand_in(alloc, &link_text(alloc, target)?)?),
-    })
+fn found_of(alloc: Global, summary: &Summary) -> Result<Found, DiskFault>
+    ensures { IfOk result (SumsTo summary.now) }
+{
+    match summary {
+        Summary::Directory => Ok(Found::Directory),
+        Summary::File { sha1, .. } => Ok(Found::Leaf(stand_in_of(alloc, &sha1.0)?)),
+        Summary::Link(target) => Ok(Found::Leaf(stand_in(alloc, &link_text(alloc, target)?)?)),
+    }
 }
 
 /// What is at a path on disk.
-pub(crate) fn find<F: Folder>(
-    alloc: Global,
-    folder: &F,
-    path: &RelPath,
-) -> Result<Found, DiskFault> {
+pub(crate) fn find<F: Folder>(alloc: Global, folder: &F, path: &RelPath) -> Result<Found, DiskFault>
+    ensures { IfOk result (λ found. IsAlways (λ s. IsFound found (seen s path.now)) (F.past folder.now)) }
+{
     match folder.sum(alloc, path)? {
         Some(summary) => found_of(alloc, &summary),
         None => Ok(Found::Nothing),
@@ -116,7 +120,9 @@ pub(crate) fn readings<F: Folder>(
     alloc: Global,
     folder: &F,
     path: &RelPath,
-) -> Result<Vec<Text>, DiskFault> {
+) -> Result<Vec<Text>, DiskFault>
+    ensures { IfOk result (λ texts. IsAlways (λ s. AreReadings texts.items (seen s path.now)) (F.past folder.now)) }
+{
     let mut texts = Vec::new(alloc);
     let Some(bytes) = bytes_at(alloc, folder, path)? else {
         return Ok(texts);

@@ -1,6 +1,12 @@
 //! Files of a copy, under names of their own.
-ghost use Rattle.svn_disk.specs.Goes.{Goes};
-ghost use Rattle.svn_disk.specs.Places.{is_temporary};
+ghost use Rattle.std.specs.Prelude.{◌≡◌, ◌++◌, codes, true, Some, IfOk, IfSome, OnOk};
+ghost use Rattle.svn_digits.specs.StandIns.{is_stand_in};
+ghost use Rattle.svn_folder.specs.declared.entry.Mode.{Mode as EntryMode};
+ghost use Rattle.svn_folder.specs.declared.entry.Entry.TheVariants.{File};
+ghost use Rattle.svn_folder.specs.States.{seen};
+ghost use Rattle.svn_disk.specs.Goes.{Goes, IsAlways};
+ghost use Rattle.svn_disk.specs.Places.{is_temporary, text_place};
+ghost use Rattle.svn_disk.specs.Ends.{Turns, CopiesText, own_place};
 
 use crate::fault::DiskFault;
 use crate::layout::Admin;
@@ -27,7 +33,9 @@ pub(crate) fn target_of<F: Folder>(
     folder: &F,
     place: &RelPath,
     props: &Props,
-) -> Result<Option<Text>, DiskFault> {
+) -> Result<Option<Text>, DiskFault>
+    ensures { IfOk result (λ found. IfSome found (λ target. IsAlways (λ s. (mode : EntryMode) × (seen s place.now ≡ Some (File (codes "link " ++ target) mode))) (F.past folder.now))) }
+{
     if !is_special(props) {
         return Ok(None);
     }
@@ -46,7 +54,9 @@ pub(crate) fn prepare<F: Folder>(
     number: usize,
     file: &Prepared<'_>,
 ) -> Result<bool, DiskFault>
-    ensures { Goes (is_temporary admin.now.name) (F.past folder.old) result (F.past folder.new) }
+    ensures steps { Goes (is_temporary admin.now.name) (F.past folder.old) result (F.past folder.new) }
+    ensures stands { OnOk result (is_stand_in file.now.name.now ≡ true) }
+    ensures ends { OnOk result (Turns (CopiesText (text_place admin.now.name file.now.name.now) (own_place admin.now.name number)) (F.past folder.old) (F.past folder.new)) }
 {
     let place = admin.text(alloc, file.name.as_slice())?;
     let new = admin.new_file(alloc, number)?;
@@ -71,7 +81,9 @@ pub(crate) fn prepare_unless_locked<F: Folder>(
     number: usize,
     file: (&Prepared<'_>, bool),
 ) -> Result<bool, DiskFault>
-    ensures { Goes (is_temporary admin.now.name) (F.past folder.old) result (F.past folder.new) }
+    ensures steps { Goes (is_temporary admin.now.name) (F.past folder.old) result (F.past folder.new) }
+    ensures stands { OnOk result (is_stand_in file.entry.0.now.name.now ≡ true) }
+    ensures ends { OnOk result (Turns (CopiesText (text_place admin.now.name file.entry.0.now.name.now) (own_place admin.now.name number)) (F.past folder.old) (F.past folder.new)) }
 {
     let (file, is_locked) = file;
     if !is_locked {

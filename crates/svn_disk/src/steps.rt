@@ -1,5 +1,5 @@
 //! Steps that belong together.
-ghost use Rattle.std.specs.Prelude.{◌≡◌, ◌∷◌, [], ℕ, List, true, None, IfOk};
+ghost use Rattle.std.specs.Prelude.{◌≡◌, ◌∷◌, [], ℕ, Bool, List, true, false, Some, None, IfOk, OnOk};
 ghost use Rattle.svn_folder.specs.declared.entry.Entry.TheVariants as entry;
 ghost use Rattle.svn_folder.specs.declared.step.Step.TheVariants as step;
 ghost use Rattle.svn_types.specs.Paths.{is_within};
@@ -7,6 +7,8 @@ ghost use Rattle.svn_folder.specs.Files.{is_sync};
 ghost use Rattle.svn_folder.specs.States.{seen};
 ghost use Rattle.svn_disk.specs.Goes.{Goes, Does, TakesOne, IsAlways};
 ghost use Rattle.svn_disk.specs.Crashes.{IsAdding};
+ghost use Rattle.svn_disk.specs.Ends.{Turns, IsPut, Stays};
+ghost use Rattle.svn_disk.specs.Spared.{GoesIn, Spares};
 
 use crate::fault::DiskFault;
 use std::alloc::Global;
@@ -50,17 +52,19 @@ pub(crate) fn make<F: Folder>(folder: &mut F, path: RelPath, entry: Entry) -> Re
     )
 }
 
-// Whether nothing is at a path.
+// Whether nothing is at a path. InTheWay where something else than a directory is.
 fn is_vacant<F: Folder>(alloc: Global, folder: &F, path: &RelPath) -> Result<bool, DiskFault>
-    ensures { IfOk result (λ vacant. vacant ≡ true → IsAlways (λ s. seen s path.now ≡ None) (F.past folder.now)) }
+    ensures vacant { IfOk result (λ vacant. vacant ≡ true → IsAlways (λ s. seen s path.now ≡ None) (F.past folder.now)) }
+    ensures there { IfOk result (λ vacant. vacant ≡ false → IsAlways (λ s. seen s path.now ≡ Some entry.Directory) (F.past folder.now)) }
 {
     match folder.look(alloc, path)? {
         None => Ok(true),
-        Some(_) => Ok(false),
+        Some(Entry::Directory) => Ok(false),
+        Some(_) => Err(DiskFault::InTheWay(path.clone()?)),
     }
 }
 
-/// Makes a directory, if nothing is there.
+/// Makes a directory, if nothing is there. InTheWay where something else is.
 #[tactic(auto, using(crate::proofs::Going::keeps_more, crate::proofs::Going::stops_more, crate::proofs::Going::stops_there, crate::proofs::Going::stops_none))]
 pub(crate) fn make_directory_if_none<F: Folder>(
     alloc: Global,
@@ -69,6 +73,9 @@ pub(crate) fn make_directory_if_none<F: Folder>(
 ) -> Result<(), DiskFault>
     ensures does { Does (step.Make path.now entry.Directory None ∷ []) (F.past folder.old) result (F.past folder.new) }
     ensures adds { (n : List ℕ) → is_within (n ∷ []) path.now ≡ true → IsAdding n (F.past folder.old) result (F.past folder.new) }
+    ensures there { OnOk result (Turns (IsPut path.now (Some entry.Directory)) (F.past folder.old) (F.past folder.new)) }
+    ensures stays { OnOk result (Turns Stays (F.past folder.old) (F.past folder.new)) }
+    ensures spares { (known : List ℕ → Bool) (n : List ℕ) → GoesIn (Spares known n) (F.past folder.old) result (F.past folder.new) }
 {
     if is_vacant(alloc, folder, path)? {
         return make(folder, path.clone()?, Entry::Directory);

@@ -1,10 +1,12 @@
 //! Pristine texts, brought to disk.
-ghost use Rattle.std.specs.Prelude.{◌≡◌, ◌↔◌, true, false, IfOk, IsTrue};
+ghost use Rattle.std.specs.Prelude.{◌≡◌, ◌↔◌, ℕ, List, true, false, drop, Ok, IfOk, OnOk, IsTrue};
+ghost use Rattle.hex.specs.Hex.{decode_sized};
 ghost use Rattle.svn_digits.specs.StandIns.{stand_in_of};
 ghost use Rattle.svn_folder.specs.States.{seen};
 ghost use Rattle.svn_disk.specs.Goes.{IsAlways};
-ghost use Rattle.svn_disk.specs.Places.{IsTemporary};
+ghost use Rattle.svn_disk.specs.Places.{IsTemporary, text_place};
 ghost use Rattle.svn_disk.specs.Crashes.{HasName, IsTextIn, IsAdding};
+ghost use Rattle.svn_disk.specs.Ends.{Turns, StaysBut, KeepsText, IsHeld, new_text_place};
 
 use crate::fault::DiskFault;
 use crate::layout::Admin;
@@ -26,7 +28,8 @@ const PRISTINE: Mode = Mode {
 
 /// The checksum that a stand-in is of. NoStandIn where it is none.
 pub(crate) fn sum_of(alloc: Global, name: &Text) -> Result<Sha1Sum, DiskFault>
-    ensures { IfOk result (λ sum. stand_in_of sum ≡ name.now) }
+    ensures name { IfOk result (λ sum. stand_in_of sum ≡ name.now) }
+    ensures sum { IfOk result (λ sum. decode_sized (drop 6 name.now) 20 ≡ Ok sum) }
 {
     let Some(digits) = name.as_slice().strip_prefix(b"$sha1$") else {
         return Err(DiskFault::NoStandIn);
@@ -144,7 +147,8 @@ impl Texts {
         new: &RelPath,
     ) -> Result<(), DiskFault>
         requires { IsTemporary admin.now.name new.now }
-        ensures { IsAdding admin.now.name (F.past folder.old) result (F.past folder.new) }
+        ensures adds { IsAdding admin.now.name (F.past folder.old) result (F.past folder.new) }
+        ensures stays { OnOk result (Turns (StaysBut new.now (text_place admin.now.name name.now)) (F.past folder.old) (F.past folder.new)) }
     {
         let place = admin.text(self.alloc, name.as_slice())?;
         if has_text(self.alloc, folder, admin, name)? {
@@ -161,7 +165,8 @@ impl Texts {
         admin: &Admin,
         name: &Text,
     ) -> Result<(), DiskFault>
-        ensures { IsAdding admin.now.name (F.past folder.old) result (F.past folder.new) }
+        ensures adds { IsAdding admin.now.name (F.past folder.old) result (F.past folder.new) }
+        ensures stays { OnOk result (Turns (StaysBut (new_text_place admin.now.name) (text_place admin.now.name name.now)) (F.past folder.old) (F.past folder.new)) }
     {
         let place = admin.text(self.alloc, name.as_slice())?;
         let new = admin.new_text(self.alloc)?;
@@ -199,7 +204,10 @@ impl Texts {
         rows: &mut Vec<TableRow>,
         file: (&RelPath, &Text),
     ) -> Result<u64, DiskFault>
-        ensures { IsAdding admin.now.name (F.past folder.old) result (F.past folder.new) }
+        ensures adds { IsAdding admin.now.name (F.past folder.old) result (F.past folder.new) }
+        ensures ends { OnOk result (Turns (KeepsText admin.now.name self.old.sizes.entries file.entry.1.now) (F.past folder.old) (F.past folder.new)) }
+        ensures held { OnOk result (IsHeld self.new.sizes.entries file.entry.1.now) }
+        ensures others { OnOk result ((name : List ℕ) → IsHeld self.old.sizes.entries name → IsHeld self.new.sizes.entries name) }
     {
         let (path, name) = file;
         let sum = sum_of(self.alloc, name)?;

@@ -3,6 +3,7 @@ use Rattle.svn_disk.specs.Crashes.{IsKept, IsOldOrNew, IsThere}
 use Rattle.svn_disk.proofs.Going.{goes_there}
 use Rattle.svn_disk.proofs.Running.{breaks_leaves, leads_leaves, runs_there, runs_after}
 use Rattle.svn_disk.proofs.Copies.{kept_none, kept_left}
+use Rattle.svn_disk.proofs.Sparing.{goes_in_there}
 use Rattle.svn_disk.proofs.bringing.bring.Goals as goal
 
 pub returns-in_err-plan-clause-crash : goal.returns-in_err-plan-clause-crash
@@ -23,3 +24,6 @@ returns-clause-after g c = λ sync.
     runs_after (IsKept c.args.existing.now.copy) (IsOldOrNew c.args.existing.now.copy c.args.wanted.now.copy) (IsThere c.args.wanted.now.copy)
     (IsKept c.args.wanted.now.copy) (g.F.Folder.past c.args.folder.now.folder) (g.F.Folder.past c.bring_by.new.folder.folder) c.into_changes.result
     (kept_left c.args.wanted.now.copy) (runs_there c.into_changes.result (c.in_ok-bring_by.ensures.crash sync).0)
+
+pub returns-clause-spares : goal.returns-clause-spares
+returns-clause-spares g c = goes_in_there c.into_changes.result c.in_ok-bring_by.ensures.spares.0

@@ -1,12 +1,15 @@
-use Rattle.std.proofs.Common.{◌≡◌, Bool, true}
+use Rattle.std.proofs.Common.{◌≡◌, Bool, true, take}
 use Rattle.std.specs.List.{list_all}
 use Rattle.svn_types.specs.Names.{Path}
 use Rattle.svn_disk.specs.Goes.{Keeps}
 use Rattle.svn_disk.specs.Places.{is_placing}
 use Rattle.svn_disk.specs.Plans.{path_of}
+use Rattle.svn_disk.specs.Ends.{Turns, AreMade}
 use Rattle.svn_disk.proofs.carry.make_directories.Given as goal
 
 abbrev pub invariant-loop-item : goal.invariant-loop-item
-invariant-loop-item g l =
-    (free : Path → Bool) → list_all (λ item. free (path_of item)) l.work ≡ true
-    → Keeps (is_placing l.admin.name free) (g.F.Folder.past l.fn.folder) (g.F.Folder.past l.folder)
+invariant-loop-item g l = record {
+  steps : (free : Path → Bool) → list_all (λ item. free (path_of item)) l.work ≡ true
+      → Keeps (is_placing l.admin.name free) (g.F.Folder.past l.fn.folder) (g.F.Folder.past l.folder);
+  ends : Turns (AreMade (take l.item-index l.work)) (g.F.Folder.past l.fn.folder) (g.F.Folder.past l.folder);
+}

@@ -1,11 +1,15 @@
-use Rattle.std.proofs.Common.{rules, ap}
-use Rattle.svn_wcrows.specs.Copies.{StandsFor}
+use Rattle.std.proofs.Common.{List, ℕ, rules, subst}
+use Rattle.std.specs.Prelude.{codes}
 use Rattle.svn_disk.specs.Places.{is_of_copy}
 use Rattle.svn_disk.specs.Plans.{present_nodes}
 use Rattle.svn_disk.proofs.Going.{keeps_more, stops_more, stops_there}
 use Rattle.svn_disk.proofs.Running.{leads_more, breaks_more, breaks_there}
 use Rattle.svn_disk.proofs.Placing.{made_keeps, made_stops, naming_of_copy}
 use Rattle.svn_disk.proofs.Replacing.{making_leads, making_breaks, naming_leads, naming_breaks, free_none}
+use Rattle.svn_folder.specs.declared.step.Step.TheVariants.{RenameDirectory}
+use Rattle.svn_disk.specs.Ends.{Turns, AreReady}
+use Rattle.svn_disk.proofs.Ends.{turns_more, took_turns}
+use Rattle.svn_disk.proofs.EndsCopy.{folder_moved}
 use Rattle.svn_disk.proofs.checkout.make_copy.Goals as goal
 
 pub returns-in_err-admin-clause-crash : goal.returns-in_err-admin-clause-crash
@@ -63,3 +67,13 @@ returns-clause-crash g c = λ sync. (
       c.in_ok-name_folder.ensures.one.0),
   tt,
 )
+
+pub returns-clause-ends : goal.returns-clause-ends
+returns-clause-ends g c =
+    let copy = c.args.what.now.copy.now in
+    let mid = g.F.Folder.past c.lay_out_on_disk.new.folder.folder in
+    turns_more (λ before left. AreReady (codes ".svn") 0 copy left) (λ a b x ready moved. moved ready)
+    (subst (λ (n : List ℕ). Turns (λ before left. AreReady n 0 copy left) (g.F.Folder.past c.args.folder.now.folder) mid) c.in_ok-admin.ensures
+    c.in_ok-progress.ensures.ends)
+    (took_turns (λ a b. AreReady (codes ".svn-new") 0 copy a → AreReady (codes ".svn") 0 copy b) (RenameDirectory (codes ".svn-new") (codes ".svn")) mid
+    (g.F.Folder.past c.name_folder.new.folder.folder) (λ s. folder_moved copy s) c.in_ok-name_folder.ensures.one.0)

@@ -1,13 +1,18 @@
-use Rattle.std.proofs.Common.{subst, rules}
+use Rattle.std.proofs.Common.{◌≡◌, true, List, subst, rules}
+use Rattle.svn_wcdb.specs.declared.table.TableRow.{TableRow}
 use Rattle.std.specs.Prelude.{codes}
 use Rattle.svn_types.proofs.NameLemmas.{Name}
 use Rattle.svn_disk.specs.Places.{is_outside}
 use Rattle.svn_disk.specs.Crashes.{Adds, AddsSome, IsSafe}
+use Rattle.svn_disk.specs.Queue.{is_queued}
+use Rattle.svn_disk.specs.Spared.{texts_in}
+use Rattle.svn_disk.specs.Finding.{has_word}
 use Rattle.svn_disk.proofs.Going.{stops_there, goes_more}
 use Rattle.svn_disk.proofs.Running.{breaks_there, runs_more}
 use Rattle.svn_disk.proofs.Adding.{temporary_adds, temporary_adds_some}
 use Rattle.svn_disk.proofs.Changing.{inside_keeps, inside_stops}
 use Rattle.svn_disk.proofs.Replacing.{safe_none}
+use Rattle.svn_disk.proofs.Sparing.{inside_keeps_in, inside_stops_in, stops_in_there, goes_in_more, spares_more}
 use Rattle.svn_disk.proofs.completion.complete.Goals as goal
 
 pub returns-in_err-task-clause-crash : goal.returns-in_err-task-clause-crash
@@ -50,7 +55,7 @@ pub returns-clause-steps : goal.returns-clause-steps
 returns-clause-steps g c =
     let adds = subst (λ (n : Name). Adds n (g.F.Folder.past c.args.folder.now) (g.F.Folder.past c.prepare_all.new.folder)) c.in_ok-admin.ensures
     (temporary_adds c.in_ok-admin.admin.name (g.F.Folder.past c.args.folder.now) (g.F.Folder.past c.prepare_all.new.folder) c.in_ok-prepare_all.ensures.0) in
-    goes_more (g.F.Folder.past c.carry_on.new.folder) c.carry_on.result (inside_keeps (codes ".svn") is_outside adds.keeps) (c.carry_on.ensures.steps is_outside c.in_ok-task.ensures)
+    goes_more (g.F.Folder.past c.carry_on.new.folder) c.carry_on.result (inside_keeps (codes ".svn") is_outside adds.keeps) (c.carry_on.ensures.steps is_outside c.in_ok-task.ensures.outside)
 
 pub returns-clause-crash : goal.returns-clause-crash
 returns-clause-crash g c = λ sync.
@@ -58,3 +63,52 @@ returns-clause-crash g c = λ sync.
     (temporary_adds c.in_ok-admin.admin.name (g.F.Folder.past c.args.folder.now) (g.F.Folder.past c.prepare_all.new.folder) c.in_ok-prepare_all.ensures.0) in
     runs_more (IsSafe (codes ".svn") c.args.existing.nodes.items) (g.F.Folder.past c.carry_on.new.folder) c.carry_on.result
     (adds.leads c.args.existing.nodes.items) (c.carry_on.ensures.crash sync c.args.existing.nodes.items c.in_ok-databases.ensures)
+
+-- ---- what its steps are at
+
+pub returns-in_err-prepare_all-clause-queue : goal.returns-in_err-prepare_all-clause-queue
+returns-in_err-prepare_all-clause-queue g c =
+    let some = subst (λ (n : Name). AddsSome n (g.F.Folder.past c.args.folder.now) (g.F.Folder.past c.prepare_all.new.folder)) c.in_ok-admin.ensures
+    (temporary_adds_some c.in_ok-admin.admin.name (g.F.Folder.past c.args.folder.now) (g.F.Folder.past c.prepare_all.new.folder) c.in_err-prepare_all.ensures.1) in
+    let stops = inside_stops (codes ".svn") (is_queued c.args.existing.tables.work_queue.items) some.stops in search rules
+
+pub returns-in_err-databases-clause-queue : goal.returns-in_err-databases-clause-queue
+returns-in_err-databases-clause-queue g c =
+    let adds = subst (λ (n : Name). Adds n (g.F.Folder.past c.args.folder.now) (g.F.Folder.past c.prepare_all.new.folder)) c.in_ok-admin.ensures
+    (temporary_adds c.in_ok-admin.admin.name (g.F.Folder.past c.args.folder.now) (g.F.Folder.past c.prepare_all.new.folder) c.in_ok-prepare_all.ensures.0) in
+    let stops = stops_there (inside_keeps (codes ".svn") (is_queued c.args.existing.tables.work_queue.items) adds.keeps) in search rules
+
+pub returns-clause-queue : goal.returns-clause-queue
+returns-clause-queue g c =
+    let queued = is_queued c.args.existing.tables.work_queue.items in
+    let adds = subst (λ (n : Name). Adds n (g.F.Folder.past c.args.folder.now) (g.F.Folder.past c.prepare_all.new.folder)) c.in_ok-admin.ensures
+    (temporary_adds c.in_ok-admin.admin.name (g.F.Folder.past c.args.folder.now) (g.F.Folder.past c.prepare_all.new.folder) c.in_ok-prepare_all.ensures.0) in
+    goes_more (g.F.Folder.past c.carry_on.new.folder) c.carry_on.result (inside_keeps (codes ".svn") queued adds.keeps)
+    (c.carry_on.ensures.steps queued c.in_ok-task.ensures.queue)
+
+-- ---- what it spares
+
+pub returns-in_err-prepare_all-clause-spares : goal.returns-in_err-prepare_all-clause-spares
+returns-in_err-prepare_all-clause-spares g c =
+    let some = subst (λ (n : Name). AddsSome n (g.F.Folder.past c.args.folder.now) (g.F.Folder.past c.prepare_all.new.folder)) c.in_ok-admin.ensures
+    (temporary_adds_some c.in_ok-admin.admin.name (g.F.Folder.past c.args.folder.now) (g.F.Folder.past c.prepare_all.new.folder) c.in_err-prepare_all.ensures.1) in
+    let stops = inside_stops_in (texts_in c.args.existing.tables.pristine.items) (codes ".svn") (g.F.Folder.past c.args.folder.now)
+    (g.F.Folder.past c.prepare_all.new.folder) some.stops in search rules
+
+pub returns-in_err-databases-clause-spares : goal.returns-in_err-databases-clause-spares
+returns-in_err-databases-clause-spares g c =
+    let adds = subst (λ (n : Name). Adds n (g.F.Folder.past c.args.folder.now) (g.F.Folder.past c.prepare_all.new.folder)) c.in_ok-admin.ensures
+    (temporary_adds c.in_ok-admin.admin.name (g.F.Folder.past c.args.folder.now) (g.F.Folder.past c.prepare_all.new.folder) c.in_ok-prepare_all.ensures.0) in
+    let stops = stops_in_there (inside_keeps_in (texts_in c.args.existing.tables.pristine.items) (codes ".svn") (g.F.Folder.past c.args.folder.now)
+    (g.F.Folder.past c.prepare_all.new.folder) adds.keeps) in search rules
+
+pub returns-clause-spares : goal.returns-clause-spares
+returns-clause-spares g c =
+    let known = texts_in c.args.existing.tables.pristine.items in
+    let adds = subst (λ (n : Name). Adds n (g.F.Folder.past c.args.folder.now) (g.F.Folder.past c.prepare_all.new.folder)) c.in_ok-admin.ensures
+    (temporary_adds c.in_ok-admin.admin.name (g.F.Folder.past c.args.folder.now) (g.F.Folder.past c.prepare_all.new.folder) c.in_ok-prepare_all.ensures.0) in
+    goes_in_more (g.F.Folder.past c.carry_on.new.folder) c.carry_on.result
+    (inside_keeps_in known (codes ".svn") (g.F.Folder.past c.args.folder.now) (g.F.Folder.past c.prepare_all.new.folder) adds.keeps)
+    (spares_more (has_word c.in_ok-known.known) known
+    (λ t has. subst (λ (xs : List TableRow). texts_in xs t ≡ true) c.deref.ensures.value (c.in_ok-known.ensures t has)) (codes ".svn") (g.F.Folder.past c.prepare_all.new.folder)
+    (g.F.Folder.past c.carry_on.new.folder) c.carry_on.result c.carry_on.ensures.spares)

@@ -1,8 +1,10 @@
 use Rattle.std.proofs.Common.{inl, inr, rules}
+use Rattle.svn_wcrows.specs.Tables.{seen_tables}
 use Rattle.svn_disk.specs.Goes.{Stops, no_step}
 use Rattle.svn_disk.proofs.Going.{stops_none}
 use Rattle.svn_disk.proofs.Running.{breaks_leaves}
 use Rattle.svn_disk.proofs.Copies.{mend_none, leaves_read, after_read_ok}
+use Rattle.svn_disk.proofs.Queue.{either_read}
 use Rattle.svn_disk.proofs.mending.mend.Goals as goal
 
 pub returns-in_err-existing-clause-steps : goal.returns-in_err-existing-clause-steps
@@ -31,3 +33,16 @@ pub returns-clause-after : goal.returns-clause-after
 returns-clause-after g c = λ sync copy.
     after_read_ok copy c.in_ok-existing.existing.copy (g.F.Folder.past c.args.folder.now.folder) c.in_ok-existing.ensures.was c.args.what.now.repo.now
     c.in_ok-existing.wanted.copy (g.F.Folder.past c.bring.new.folder.folder) c.bring.result c.in_ok-existing.ensures.is_true (c.bring.ensures.after sync)
+
+pub returns-in_err-existing-clause-spares : goal.returns-in_err-existing-clause-spares
+returns-in_err-existing-clause-spares g c = λ rows has.
+    let none : Stops no_step (g.F.Folder.past c.args.folder.now.folder) (g.F.Folder.past c.args.folder.now.folder) =
+    stops_none no_step (g.F.Folder.past c.args.folder.now.folder) in inl (search rules)
+
+pub returns-clause-spares : goal.returns-clause-spares
+returns-clause-spares g c = λ rows has. inr (record {
+  copy = c.in_ok-existing.wanted.copy;
+  is_true = c.in_ok-existing.ensures.is_true;
+  spares = either_read (seen_tables c.in_ok-existing.existing.tables) rows (g.F.Folder.past c.args.folder.now.folder) (g.F.Folder.past c.bring.new.folder.folder)
+      c.bring.result c.in_ok-existing.ensures.rows has c.in_ok-existing.wanted.copy c.bring.ensures.spares;
+})

@@ -6,6 +6,8 @@ use Rattle.svn_disk.specs.Crashes.{Adds, AddsSome}
 use Rattle.svn_disk.proofs.Going.{goes_more}
 use Rattle.svn_disk.proofs.Changing.{inside_keeps, inside_stops}
 use Rattle.svn_disk.proofs.Copies.{kept_none, added_breaks, brought_runs}
+use Rattle.svn_disk.specs.Spared.{texts_of_either}
+use Rattle.svn_disk.proofs.Sparing.{inside_keeps_in, inside_stops_in, goes_in_more}
 use Rattle.svn_disk.proofs.bringing.Bringing.bring.Goals as goal
 
 pub returns-in_err-task-clause-crash : goal.returns-in_err-task-clause-crash
@@ -39,3 +41,20 @@ returns-clause-crash g c = λ sync.
     brought_runs c.args.self.now.existing.now.copy c.args.self.now.wanted.now.copy c.in_ok-ready.ready.images.nodes.items c.in_ok-ready.ensures.nodes
     (g.F.Folder.past c.args.folder.now.folder) (g.F.Folder.past c.prepare_all.new.folder.folder) (g.F.Folder.past c.finish.new.folder.folder) c.finish.result adds
     (c.finish.ensures.crash sync)
+
+pub returns-in_err-ready-clause-spares : goal.returns-in_err-ready-clause-spares
+returns-in_err-ready-clause-spares g c =
+    let known = texts_of_either c.args.self.now.existing.now.tables.pristine.items c.args.self.now.wanted.now.copy in
+    let some = subst (λ (n : Name). AddsSome n (g.F.Folder.past c.args.folder.now.folder) (g.F.Folder.past c.prepare_all.new.folder.folder)) c.requires
+    c.in_err-ready.ensures.adds.1 in
+    let stops = inside_stops_in known (codes ".svn") (g.F.Folder.past c.args.folder.now.folder) (g.F.Folder.past c.prepare_all.new.folder.folder) some.stops in
+    search rules
+
+pub returns-clause-spares : goal.returns-clause-spares
+returns-clause-spares g c =
+    let known = texts_of_either c.args.self.now.existing.now.tables.pristine.items c.args.self.now.wanted.now.copy in
+    let adds = subst (λ (n : Name). Adds n (g.F.Folder.past c.args.folder.now.folder) (g.F.Folder.past c.prepare_all.new.folder.folder)) c.requires
+    c.in_ok-ready.ensures.adds.0 in
+    goes_in_more (g.F.Folder.past c.finish.new.folder.folder) c.finish.result
+    (inside_keeps_in known (codes ".svn") (g.F.Folder.past c.args.folder.now.folder) (g.F.Folder.past c.prepare_all.new.folder.folder) adds.keeps)
+    c.finish.ensures.spares

@@ -9,6 +9,9 @@ use Rattle.svn_disk.proofs.Going.{goes_more}
 use Rattle.svn_disk.proofs.Running.{runs_more, runs_along}
 use Rattle.svn_disk.proofs.Changing.{inside_keeps, inside_stops, work_outside}
 use Rattle.svn_disk.proofs.Replacing.{one_none}
+use Rattle.svn_disk.specs.Spared.{texts_of_either}
+use Rattle.svn_disk.specs.Finding.{has_word}
+use Rattle.svn_disk.proofs.Sparing.{inside_keeps_in, inside_stops_in, goes_in_more, spares_more}
 use Rattle.svn_disk.proofs.bringing.Bringing.change.Goals as goal
 
 pub put-requires-clause-image : goal.put-requires-clause-image
@@ -57,3 +60,17 @@ returns-clause-crash g c = λ sync old are.
     (runs_along (IsSafe (codes ".svn") new) (IsSafe (codes ".svn") new) (IsSafe (codes ".svn") new) (IsSafe (codes ".svn") new) (IsWhole (codes ".svn") new)
     (IsOneOf old new) (λ s safe. safe) (λ left whole. inr whole) (λ s safe. safe) (g.F.Folder.past c.put.new.folder.folder)
     (g.F.Folder.past c.carry_on.new.folder.folder) c.carry_on.result (c.carry_on.ensures.crash sync new images))
+
+pub returns-in_err-put-clause-spares : goal.returns-in_err-put-clause-spares
+returns-in_err-put-clause-spares g c =
+    let known = texts_of_either c.args.self.now.existing.now.tables.pristine.items c.args.self.now.wanted.now.copy in
+    let stops = inside_stops_in known (codes ".svn") (g.F.Folder.past c.args.folder.now.folder) (g.F.Folder.past c.put.new.folder.folder) c.in_err-put.ensures.steps.1 in
+    search rules
+
+pub returns-clause-spares : goal.returns-clause-spares
+returns-clause-spares g c =
+    let known = texts_of_either c.args.self.now.existing.now.tables.pristine.items c.args.self.now.wanted.now.copy in
+    goes_in_more (g.F.Folder.past c.carry_on.new.folder.folder) c.carry_on.result
+    (inside_keeps_in known (codes ".svn") (g.F.Folder.past c.args.folder.now.folder) (g.F.Folder.past c.put.new.folder.folder) c.in_ok-put.ensures.steps.0)
+    (spares_more (has_word c.in_ok-known.known) known c.in_ok-known.ensures (codes ".svn") (g.F.Folder.past c.put.new.folder.folder)
+    (g.F.Folder.past c.carry_on.new.folder.folder) c.carry_on.result c.carry_on.ensures.spares)

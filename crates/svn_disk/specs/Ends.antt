@@ -1,0 +1,208 @@
+-- What a folder shows once a call has returned Ok.
+--     Turns R old new      begun where all is known of a folder, a part of a call ends where all is known, and what is shown then is, by what was shown before,
+--         as R says
+--     text_at found      the stand-in of the text of what is at a path: the bytes of a file, or "link " and the target of a link
+--     IsAtPlace node found      that is what a node is on disk
+--     AreAtPlaces copy left      each node of a copy is at its place; of the folder itself, and of what isn't present, nothing is said
+--     own_place n i      the file of that number, before it has its place
+--     ArePlaced n i work before left      what work makes is there: a directory, or what was under the file's own name before, from that number on
+--     AreReady n i copy left      each file of a copy is under its own name, from that number on, with its text
+--     AreCopied n i copy left      it is there as its pristine text is, whatever that is
+use Rattle.std.specs.Prelude.{◌≡◌, ℕ, ◌+◌, ◌-◌, ◌<◌, ◌^◌, min, true, false, List, [], ◌∷◌, ◌++◌, drop, codes, Option, Some, None, is_some, Ok, ⊤}
+use Rattle.std.specs.BTreeMap.{is_at}
+use Rattle.std.specs.Cmp.Lexicographic.{slice_cmp}
+use Rattle.std.specs.Fmt.{decimal}
+use Rattle.std.specs.List.{list_any}
+use Rattle.std.specs.Map.{lookup}
+use Rattle.std.specs.Ordering.{nat_cmp}
+use Rattle.hex.specs.Hex.{decode_sized}
+use Rattle.svn_types.specs.Names.{Path}
+use Rattle.svn_types.specs.Paths.{path_eq, is_root}
+use Rattle.svn_digits.specs.StandIns.{stand_in, is_stand_in}
+use Rattle.svn_model.specs.declared.base_node.BaseNode.{BaseNode}
+use Rattle.svn_model.specs.declared.base_node.BaseNode.TheVariants.{File as FileNode, Dir as DirNode, NotPresent}
+use Rattle.svn_model.specs.Nodes.{get_in}
+use Rattle.svn_wcrows.specs.declared.work.Work.{Work}
+use Rattle.svn_wcrows.specs.declared.work.Work.TheVariants.{MakeDirectory, InstallFile, RemoveFile, RemoveDirectory}
+use Rattle.svn_folder.specs.declared.entry.Entry.{Entry}
+use Rattle.svn_folder.specs.declared.entry.Entry.TheVariants.{File, Directory, Link}
+use Rattle.svn_folder.specs.declared.step.Step.{Step}
+use Rattle.svn_folder.specs.States.{Seen, State, seen}
+use Rattle.svn_folder.specs.Steps.{run}
+use Rattle.svn_folder.specs.Pasts.{Past, Known}
+use Rattle.svn_disk.specs.Places.{text_place}
+use Rattle.svn_disk.specs.Plans.{path_of}
+
+-- ---- what is shown in the end
+
+pub record TurnsTo (R : Seen → Seen → Type 0) (before : Seen) (new : Past) : Type 0 where
+  pub state : State
+  pub steps : List Step
+  pub past : new ≡ Known state steps
+  pub turns : R before (seen (run state steps))
+
+pub record Turns (R : Seen → Seen → Type 0) (old new : Past) : Type 0 where
+  pub each : (s : State) (steps : List Step) → old ≡ Known s steps → TurnsTo R (seen (run s steps)) new
+
+-- ---- nodes at their places
+
+abbrev pub text_at : Option Entry → Option (List ℕ)
+text_at None = None
+text_at (Some (File bytes mode)) = Some (stand_in bytes)
+text_at (Some Directory) = None
+text_at (Some (Link target)) = Some (stand_in (codes "link " ++ target))
+
+abbrev pub IsAtPlace : BaseNode → Option Entry → Type 0
+IsAtPlace (FileNode r q t ps) found = text_at found ≡ Some t
+IsAtPlace (DirNode r q c ps) found = found ≡ Some Directory
+IsAtPlace NotPresent found = ⊤
+
+abbrev pub AreAtPlaces : List (Path × BaseNode) → Seen → Type 0
+AreAtPlaces copy left = (p : Path) (node : BaseNode) → get_in copy p ≡ Some node → is_root p ≡ false → IsAtPlace node (left p)
+
+-- ---- work, done
+
+abbrev pub own_place : List ℕ → ℕ → Path
+own_place n i = n ∷ codes "tmp" ∷ (codes "new-" ++ decimal i) ∷ []
+
+-- how many files it places
+abbrev pub files_of : Work → ℕ
+files_of (MakeDirectory p) = 0
+files_of (InstallFile p) = 1
+files_of (RemoveFile p) = 0
+files_of (RemoveDirectory p) = 0
+
+abbrev pub IsPlaced : List ℕ → ℕ → Work → Seen → Seen → Type 0
+IsPlaced n i (MakeDirectory p) before left = left p ≡ Some Directory
+IsPlaced n i (InstallFile p) before left = left p ≡ before (own_place n i)
+IsPlaced n i (RemoveFile p) before left = ⊤
+IsPlaced n i (RemoveDirectory p) before left = ⊤
+
+abbrev pub ArePlaced : List ℕ → ℕ → List Work → Seen → Seen → Type 0
+ArePlaced n i [] before left = ⊤
+ArePlaced n i (item ∷ work) before left = IsPlaced n i item before left × ArePlaced n (i + files_of item) work before left
+
+-- no two items are about the same path
+abbrev pub AreDistinct : List Work → Type 0
+AreDistinct [] = ⊤
+AreDistinct (item ∷ work) = (list_any (λ other. path_eq (path_of item) (path_of other)) work ≡ false) × AreDistinct work
+
+-- ---- files under names of their own
+
+-- how many files a node is
+abbrev pub files_at : BaseNode → ℕ
+files_at (FileNode r q t ps) = 1
+files_at (DirNode r q c ps) = 0
+files_at NotPresent = 0
+
+-- the number of the file that comes next
+abbrev pub number_after : BaseNode → ℕ → ℕ
+number_after (FileNode r q t ps) i = min (i + 1) (2 ^ 64 - 1)
+number_after (DirNode r q c ps) i = i
+number_after NotPresent i = i
+
+abbrev pub IsReadyAt : List ℕ → ℕ → BaseNode → Seen → Type 0
+IsReadyAt n i (FileNode r q t ps) left = text_at (left (own_place n i)) ≡ Some t
+IsReadyAt n i (DirNode r q c ps) left = ⊤
+IsReadyAt n i NotPresent left = ⊤
+
+abbrev pub AreReady : List ℕ → ℕ → List (Path × BaseNode) → Seen → Type 0
+AreReady n i [] left = ⊤
+AreReady n i (entry ∷ copy) left = IsReadyAt n i entry.1 left × AreReady n (i + files_at entry.1) copy left
+
+-- the text that a stand-in names is there, and under a name of its own
+pub record HasCopy (n : List ℕ) (i : ℕ) (name : List ℕ) (left : Seen) : Type 0 where
+  pub stands : is_stand_in name ≡ true
+  pub there : is_some (text_at (left (text_place n name))) ≡ true
+  pub same : text_at (left (own_place n i)) ≡ text_at (left (text_place n name))
+
+abbrev pub IsCopied : List ℕ → ℕ → BaseNode → Seen → Type 0
+IsCopied n i (FileNode r q t ps) left = HasCopy n i t left
+IsCopied n i (DirNode r q c ps) left = ⊤
+IsCopied n i NotPresent left = ⊤
+
+abbrev pub AreCopied : List ℕ → ℕ → List (Path × BaseNode) → Seen → Type 0
+AreCopied n i [] left = ⊤
+AreCopied n i (entry ∷ copy) left = IsCopied n i entry.1 left × AreCopied n (i + files_at entry.1) copy left
+
+-- a text that is written, before it has its name
+abbrev pub new_text_place : List ℕ → Path
+new_text_place n = n ∷ codes "tmp" ∷ codes "new-text" ∷ []
+
+-- all is as it was
+abbrev pub IsSame : Seen → Seen → Type 0
+IsSame before left = (q : Path) → left q ≡ before q
+
+-- what is somewhere stays
+abbrev pub Stays : Seen → Seen → Type 0
+Stays before left = (r : Path) → is_some (before r) ≡ true → left r ≡ before r
+
+-- all is as it was, but at a path
+abbrev pub IsSameBut : Path → Seen → Seen → Type 0
+IsSameBut p before left = (r : Path) → path_eq p r ≡ false → left r ≡ before r
+
+-- what is somewhere stays, but at two paths
+abbrev pub StaysBut : Path → Path → Seen → Seen → Type 0
+StaysBut p q before left = (r : Path) → is_some (before r) ≡ true → path_eq p r ≡ false → path_eq q r ≡ false → left r ≡ before r
+
+-- what has a text is copied to another path
+pub record CopiesText (p q : Path) (before left : Seen) : Type 0 where
+  pub there : is_some (text_at (before p)) ≡ true
+  pub same : text_at (left q) ≡ text_at (before p)
+  pub others : (r : Path) → path_eq q r ≡ false → left r ≡ before r
+
+-- the checksum that a stand-in is of is among those of the texts that are kept
+abbrev pub IsHeld : List (List ℕ × ℕ) → List ℕ → Type 0
+IsHeld sizes name = (sum : List ℕ) × (decode_sized (drop 6 name) 20 ≡ Ok sum) × (is_some (lookup (is_at (slice_cmp nat_cmp sum)) sizes) ≡ true)
+
+-- a text is kept: nothing changes if it was before
+pub record KeepsText (n : List ℕ) (sizes : List (List ℕ × ℕ)) (name : List ℕ) (before left : Seen) : Type 0 where
+  pub again : IsHeld sizes name → IsSame before left
+  pub stays : StaysBut (new_text_place n) (text_place n name) before left
+
+-- the files with lower numbers stay as their texts are, and one more comes
+pub record CopiesNode (n : List ℕ) (i : ℕ) (sizes : List (List ℕ × ℕ)) (node : BaseNode) (before left : Seen) : Type 0 where
+  pub earlier : (j : ℕ) (name : List ℕ) → j < i → IsHeld sizes name → HasCopy n j name before → HasCopy n j name left
+  pub comes : IsCopied n i node left
+
+-- ---- parts of it
+
+-- a directory that comes is there
+abbrev pub IsDirectoryOf : Work → Seen → Type 0
+IsDirectoryOf (MakeDirectory p) left = left p ≡ Some Directory
+IsDirectoryOf (InstallFile p) left = ⊤
+IsDirectoryOf (RemoveFile p) left = ⊤
+IsDirectoryOf (RemoveDirectory p) left = ⊤
+
+abbrev pub AreDirectories : List Work → Seen → Type 0
+AreDirectories [] left = ⊤
+AreDirectories (item ∷ work) left = IsDirectoryOf item left × AreDirectories work left
+
+-- something is at a path, and everything else is as it was
+pub record IsPut (p : Path) (e : Option Entry) (before left : Seen) : Type 0 where
+  pub here : left p ≡ e
+  pub others : (q : Path) → path_eq p q ≡ false → left q ≡ before q
+
+-- what was at a path is at another one
+pub record IsMoved (p q : Path) (before left : Seen) : Type 0 where
+  pub here : left q ≡ before p
+  pub others : (r : Path) → path_eq p r ≡ false → path_eq q r ≡ false → left r ≡ before r
+
+-- the directories that come are there, and everything else is as it was
+pub record AreMade (work : List Work) (before left : Seen) : Type 0 where
+  pub made : AreDirectories work left
+  pub others : (q : Path) → list_any (λ item. path_eq (path_of item) q) work ≡ false → left q ≡ before q
+
+-- a directory is made
+abbrev pub IsOneMade : Work → Seen → Seen → Type 0
+IsOneMade (MakeDirectory p) before left = IsPut p (Some Directory) before left
+IsOneMade (InstallFile p) before left = IsSame before left
+IsOneMade (RemoveFile p) before left = IsSame before left
+IsOneMade (RemoveDirectory p) before left = IsSame before left
+
+-- a file gets its place
+abbrev pub IsOnePlaced : List ℕ → ℕ → Work → Seen → Seen → Type 0
+IsOnePlaced n i (MakeDirectory p) before left = IsSame before left
+IsOnePlaced n i (InstallFile p) before left = IsMoved (own_place n i) p before left
+IsOnePlaced n i (RemoveFile p) before left = IsSame before left
+IsOnePlaced n i (RemoveDirectory p) before left = IsSame before left
