@@ -12,8 +12,8 @@ use Rattle.svn_disk_update.specs.Reaching.{IsLeft, IsReached, IsStop}
 pub is_left : (a : Asked) (capacity : ℕ) (left : Nodes) (x : Outcome × Passed) → ThreadsTheorem a capacity left (Ok x) → IsLeft a left x.0
 is_left a capacity left x t = record { ran = t.ran.ran; truth = t.sound.truth }
 
-pub is_reached : (a : Asked) (outcome : Outcome) (r : Reached) → IsLeft a r.copy outcome → IsStop outcome r.stopped → IsReached a r
+pub is_reached : (a : Asked) (outcome : Outcome) (r : Reached) → IsLeft a r.copy outcome → IsStop outcome r.stopped → IsReached a r.copy r.stopped
 is_reached a outcome r l s = record { outcome = outcome; ran = l.ran; stop = s; truth = l.truth }
 
-pub reached_truth : (h : History) (nodes : Nodes) (w : Request) (r : Reached) → IsReached (asked h nodes w) r → IsTrueOf h (get_in r.copy)
+pub reached_truth : (h : History) (nodes : Nodes) (w : Request) (r : Reached) → IsReached (asked h nodes w) r.copy r.stopped → IsTrueOf h (get_in r.copy)
 reached_truth h nodes w r l = l.truth

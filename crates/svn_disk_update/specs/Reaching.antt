@@ -1,5 +1,5 @@
 -- The copy that an update or a switch of a whole copy leads to.
---     IsReached a r      it is what a run left that was asked for this, and was stopped where the run was
+--     IsReached a copy stopped      it is what a run left that was asked for this, and was stopped where the run was
 --     IsLeft a left outcome      that is what the run left, and how it ended
 --     IsReachedWhole h nodes target r      the same, by the target
 use Rattle.std.specs.Prelude.{◌≡◌, ℕ, Option, Some, None}
@@ -23,11 +23,11 @@ IsStop (Closed calls) stopped = stopped ≡ None
 IsStop (Aborted made accepted late cause) stopped = stopped ≡ Some accepted
 
 -- by the update theorem
-pub record IsReached (a : Asked) (r : Reached) : Type 0 where
+pub record IsReached (a : Asked) (copy : Nodes) (stopped : Option ℕ) : Type 0 where
   pub outcome : Outcome
-  pub ran : Ran a r.copy outcome
-  pub stop : IsStop outcome r.stopped
-  pub truth : IsTrueOf a.history (get_in r.copy)
+  pub ran : Ran a copy outcome
+  pub stop : IsStop outcome stopped
+  pub truth : IsTrueOf a.history (get_in copy)
 
 -- the run ended so, and left that copy
 pub record IsLeft (a : Asked) (left : Nodes) (outcome : Outcome) : Type 0 where
@@ -44,4 +44,4 @@ abbrev pub request_of : Target → Request
 request_of target = requested target.rev (mode_to (option_copied target.to)) target.options.late_texts target.options.cancel_after
 
 abbrev pub IsReachedWhole : History → Nodes → Target → Reached → Type 0
-IsReachedWhole h nodes target r = IsReached (asked h nodes (request_of target)) r
+IsReachedWhole h nodes target r = IsReached (asked h nodes (request_of target)) r.copy r.stopped

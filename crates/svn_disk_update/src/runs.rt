@@ -79,7 +79,7 @@ pub(crate) fn run_copy<R: Threads + Wait + Sync>(
     capacity: usize,
 ) -> Result<Reached, RunFault>
     requires truth { IsTrueOf repo.now (get_in copy.now) }
-    ensures { IfOk result (IsReached (asked repo.now copy.now request.now)) }
+    ensures { IfOk result (λ r. IsReached (asked repo.now copy.now request.now) r.copy r.stopped) }
 {
     let Ok(mut left) = copy.clone() else {
         return Err(RunFault::Memory);

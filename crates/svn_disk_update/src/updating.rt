@@ -1,6 +1,10 @@
 //! A working copy on disk, updated or switched.
-ghost use Rattle.std.specs.Prelude.{OnOk};
+ghost use Rattle.std.specs.Prelude.{◌≡◌, true, [], IfOk, OnOk};
 ghost use Rattle.svn_model.specs.Nodes.{get_in, IsTrueOf};
+ghost use Rattle.svn_run.specs.UpdateTheorem.{asked};
+ghost use Rattle.svn_disk.specs.Crashes.{IsKept, IsThereOrTrue, IsTrueThere, LeavesFrom, AfterFrom};
+ghost use Rattle.svn_disk_update.specs.Reaching.{IsReached};
+ghost use Rattle.svn_disk_update.specs.Arriving.{request_at, IsArrived};
 
 use crate::fault::UpdateFault;
 use crate::reaching::reach;
@@ -48,7 +52,10 @@ struct Leading {
 
 impl Leading {
     // What was done.
-    fn updated(self, changes: Vec<PathChange>) -> Updated {
+    fn updated(self, changes: Vec<PathChange>) -> Updated
+        ensures rev { result.rev ≡ self.rev }
+        ensures stopped { result.stopped ≡ self.stopped }
+    {
         Updated {
             rev: self.rev,
             restored: self.restored,
@@ -79,7 +86,10 @@ fn run_to<R: Threads + Wait + Sync>(
     alloc: Global,
     what: &Aim<'_>,
     rev: Rev,
-) -> Result<Reached, UpdateFault> {
+) -> Result<Reached, UpdateFault>
+    ensures whole { what.now.path.now ≡ [] → IfOk result (λ r. IsReached (asked what.now.repo.now what.now.existing.now.copy (request_at what.now rev)) r.copy r.stopped) }
+    ensures truth { IfOk result (λ r. IsTrueOf what.now.repo.now (get_in r.copy)) }
+{
     let old = what.existing.copy();
     refuse_untrue(what.repo, old)?;
     let target = Target {
@@ -97,7 +107,10 @@ fn find<R: Threads + Wait + Sync, F: Folder>(
     alloc: Global,
     folder: &F,
     what: &Aim<'_>,
-) -> Result<Leading, UpdateFault> {
+) -> Result<Leading, UpdateFault>
+    ensures whole { what.now.path.now ≡ [] → IfOk result (λ leading. IsReached (asked what.now.repo.now what.now.existing.now.copy (request_at what.now leading.rev)) leading.wanted.copy leading.stopped) }
+    ensures truth { IfOk result (λ leading. IsTrueOf what.now.repo.now (get_in leading.wanted.copy)) }
+{
     what.existing.refuse_busy()?;
     what.existing.refuse_other(alloc, what.uuid)?;
     let rev = revision_of(what.repo, what.rev)?;
@@ -144,7 +157,11 @@ pub fn update<R: Threads + Wait + Sync, F: Folder, S: Source>(
     folder: &mut SyncedFolder<F>,
     source: &mut S,
     what: &Aim<'_>,
-) -> Result<Updated, UpdateFault> {
+) -> Result<Updated, UpdateFault>
+    ensures crash { what.now.sync ≡ true → LeavesFrom (IsKept what.now.existing.now.copy) (IsThereOrTrue what.now.existing.now.copy what.now.repo.now) (F.past folder.old.folder) (F.past folder.new.folder) }
+    ensures after { what.now.sync ≡ true → OnOk result (AfterFrom (IsKept what.now.existing.now.copy) (IsTrueThere what.now.repo.now) (F.past folder.old.folder) (F.past folder.new.folder)) }
+    ensures whole { what.now.sync ≡ true → what.now.path.now ≡ [] → IfOk result (λ updated. AfterFrom (IsKept what.now.existing.now.copy) (IsArrived what.now.repo.now what.now.existing.now.copy (request_at what.now updated.rev) updated.stopped) (F.past folder.old.folder) (F.past folder.new.folder)) }
+{
     let leading = find(rt, alloc, folder, what)?;
     let changes = bring(
         alloc,

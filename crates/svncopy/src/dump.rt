@@ -3,11 +3,12 @@
 
 use crate::expansion::{Expansion, may_have_deltas, open_expansion};
 use crate::fault::Fault;
+use crate::progress::Progress;
 use std::alloc::{AllocError, Global};
 use std::fs::{File, OpenOptions};
 use std::io::{Read, Seek, SeekFrom, Write};
 use std::os::unix::fs::OpenOptionsExt;
-use std::rt::Files;
+use std::rt::{Clock, Files};
 use std::{fs, io};
 use svn_disk::{Source, TextSums};
 use svn_dump::{DumpIndex, Limits, Reader, Texts};
@@ -148,10 +149,10 @@ fn load_whole<R: Read + Drop, L: LoadListener>(
 
 impl<R: Read + Write + Seek + Drop> Dump<R> {
     /// Its history, and the file of its texts.
-    pub(crate) fn load<L: LoadListener>(
+    pub(crate) fn load<T: Clock + Eprint>(
         self,
         alloc: Global,
-        listener: &mut L,
+        progress: &mut Progress<'_, T>,
     ) -> Result<(History, R), Fault> {
         let Dump {
             history,
@@ -159,12 +160,14 @@ impl<R: Read + Write + Seek + Drop> Dump<R> {
             expansion,
         } = self;
         let Some(expansion) = expansion else {
-            let history = load_whole(alloc, history, None, listener)?;
+            let history = load_whole(alloc, history, None, progress)?;
             return Ok((history, texts));
         };
         drop(texts);
-        let expanded = expansion.expand(alloc, history, listener)?;
-        let history = load_whole(alloc, expanded.history, Some(&expanded.origins), listener)?;
+        progress.expanding(true);
+        let expanded = expansion.expand(alloc, history, progress)?;
+        progress.expanding(false);
+        let history = load_whole(alloc, expanded.history, Some(&expanded.origins), progress)?;
         Ok((history, expanded.texts))
     }
 }
