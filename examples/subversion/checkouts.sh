@@ -39,7 +39,7 @@ compare_with() {
     same "$what: the line" wanted got
     "$here/rows.py" theirs >wanted
     "$here/rows.py" ours >got
-    same "$what: the copy" wanted got
+    same_copies "$what: the copy"
     pristine_texts theirs >wanted
     pristine_texts ours >got
     same "$what: the texts" wanted got

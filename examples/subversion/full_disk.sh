@@ -19,12 +19,12 @@ make_repo() {
     ln -s f work/link
     svn -q add work/f work/d work/kept work/link work/x && svn -q propset svn:executable yes work/d/g && svn -q commit -m one work
     svnadmin -q hotcopy repo backup
-    echo lost >work/f && echo z >work/x/z && svn -q add work/x/z && svn -q commit -m lost work && svn -q update work && svn -q checkout "$url" false
+    echo lost >work/f && echo z >work/x/z && svn -q add work/x/z && svn -q commit -m lost work
+    echo lost too >work/f && svn -q commit -m 'lost too' work && svn -q update work && svn -q checkout "$url" false
     rm -rf repo work && cp -a backup repo && svn -q checkout "$url" work
     svn -q rm work/x && svn -q commit -m half work && svn -q update work
     echo again >work/f && echo a file >work/x && mkdir work/new && echo n >work/new/n && svn -q add work/x work/new && svn -q propset p v work/d
-    svn -q commit -m again work && svn -q update -r 2 work && svn -q update work && svnadmin dump -q repo >dump
-    while [ "$(svnlook youngest repo)" -lt 2 ]; do svn -q mkdir -m more "$url/more"; done
+    svn -q commit -m again work && svnadmin dump -q repo >dump
 }
 
 # rows COPY: its rows and files, but for texts that no node has

@@ -4,6 +4,9 @@
 #   needs_built NAME..      the same of programs of this repository: crates/NAME/out/NAME, as `tools/prove NAME` builds it, or the program that the variable of
 #                           its name in capitals names (SVNUP, SVNAUDIT); afterwards that variable names the program
 #   same WHAT WANTED GOT    whether two files are the same; `compared` and `wrong` count
+#   same_copies WHAT        whether two copies are the same, whose rows are in `wanted` (Subversion's) and `got`. Its update leaves the last change of a node as it was
+#                           that was removed and copied back (or was copied as it is) since; ours is then what the repository says. A revision that touched a node
+#                           and changed nothing isn't seen here. `stale` counts these
 #   refused WHAT LINE COMMAND..   whether it is refused by that one line, with status 2, and nothing on standard output
 #   end                     says how many there were, and ends the script, with status 1 where something is wrong
 set -u
@@ -12,7 +15,7 @@ export SVN_I_LOVE_CORRUPTED_WORKING_COPIES_SO_DISABLE_SLEEP_FOR_TIMESTAMPS=yes
 began=$PWD
 here=$(cd "$(dirname "${BASH_SOURCE[0]}")" && pwd)
 top=$(cd "$here/../.." && pwd)
-compared=0 wrong=0
+compared=0 wrong=0 stale=0
 
 needs() {
     local it
@@ -36,6 +39,14 @@ same() {
     wrong=$((wrong + 1))
     echo "$1 DIFFERS:"
     diff "$2" "$3" | head -6 | sed 's/^/    /'
+}
+
+same_copies() {
+    if ! cmp -s wanted got && "$here/stale_changes.py" repo wanted got; then
+        compared=$((compared + 1)) stale=$((stale + 1))
+    else
+        same "$1" wanted got
+    fi
 }
 
 refused() {

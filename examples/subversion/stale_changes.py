@@ -1,5 +1,6 @@
 #!/usr/bin/env python3
-"""Whether two copies differ in nothing but last changes that Subversion's update leaves as they were, where the repository has others: what updates.sh calls.
+"""Whether two copies differ in nothing but last changes that Subversion's update leaves as they were, where the repository has others, and in the size and
+time of a file with a local change, which it forgets where a revision touched the file: what updates.sh and checkouts.sh call.
 
     stale_changes.py REPO THEIRS OURS    the lines of rows.py; status 0 if each node of OURS has the last change that the repository names, or an older one
                                          where a revision touched the node and changed nothing of it
@@ -30,6 +31,14 @@ def is_last_change(repo, node):
     return node[19] < last and path not in {it[4:].rstrip("/") for it in changed.split("\n")}
 
 
+def is_same(was, is_now):
+    """Whether two rows are the same but for the last change, and for a size and time that Subversion's has no longer."""
+    recorded = slice(15, 17)
+    if was[recorded] == [None, False]:
+        was = was[:15] + is_now[recorded] + was[17:]
+    return was[:-3] == is_now[:-3]
+
+
 def main(words):
     if len(words) != 3:
         sys.exit(__doc__.strip())
@@ -42,7 +51,7 @@ def main(words):
         if not one.startswith("node ") or not other.startswith("node "):
             sys.exit(1)
         was, is_now = ast.literal_eval(one[5:]), ast.literal_eval(other[5:])
-        if was[:-3] != is_now[:-3] or not is_last_change(words[0], is_now):
+        if not is_same(was, is_now) or not is_last_change(words[0], is_now):
             sys.exit(1)
 
 

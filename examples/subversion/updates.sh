@@ -43,16 +43,6 @@ is_true() {
 # sorted_lines: the lines in one order, since Subversion's own is that of its storage
 sorted_lines() { LC_ALL=C sort; }
 
-# same_copies WHAT: whether both copies, whose rows are in `wanted` and `got`, are the same. Subversion's update leaves the last change of a node as it was that was
-# removed and copied back (or was copied as it is) since; ours is then what the repository says. A revision that touched a node and changed nothing isn't seen here
-same_copies() {
-    compared=$((compared + 1))
-    cmp -s wanted got && return
-    if "$here/stale_changes.py" repo wanted got; then stale=$((stale + 1)); return; fi
-    same "$1" wanted got
-}
-stale=0
-
 # both WHAT WORDS..: a command of both programs on the copies `wc` in `theirs` and in `ours`: the same lines and copies
 both() {
     local what=$1 command=$2
