@@ -127,8 +127,8 @@ refusal() {
     *'not what the repository has there'*)
         is_true old && wrongly "$what: THE OLD COPY IS TRUE: $line"
         named=$((named + 1)) ;;
-    # (Subversion updates a root to another node)
-    *': another node is there in the target') [ $status != 0 ] || named=$((named + 1)) ;;
+    # (Subversion updates a root to another node, and says of a path that neither has that it is at the revision)
+    *': another node is there in the target' | *': nothing is there in the target') [ $status != 0 ] || named=$((named + 1)) ;;
     *) [ $status != 0 ] || wrongly "$what: REFUSED: $line" ;;
     esac
 }
