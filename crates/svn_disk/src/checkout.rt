@@ -424,7 +424,8 @@ pub fn refuse_check_out<F: Folder>(
 /// Refused before anything is changed: Reserved at the first node named `.svn`, ACopy where the folder is a working copy's, CutOff where a checkout was
 /// cut off, InTheWay at the first path of the copy in the folder itself that is taken. Then NoText at the first file whose text isn't given, NoStandIn
 /// where a text is no stand-in by SHA-1, Folder where a step fails, InTheWay where something came to be where a directory would be, Rows, Path and Memory.
-/// Before the administrative folder has its name there is no copy; from then on there is the whole copy, with work left that `svn cleanup` does too: with `sync`, whenever the program or the power stops.
+/// Before the administrative folder has its name there is no copy; from then on there is the whole copy, with work left that `svn cleanup` does too: with
+/// `sync`, whenever the program or the power stops.
 pub fn check_out<F: Folder, S: Source>(
     alloc: Global,
     folder: &mut SyncedFolder<F>,

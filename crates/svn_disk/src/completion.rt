@@ -382,8 +382,9 @@ fn complete_if_busy<F: Folder>(
 ///
 /// Refused before anything is changed: NoCopy; InUse where a client is about to write, and Journal; Foreign where the work is a client's, or the database was
 /// changed since, which `svn cleanup` is for; NoText where a pristine text isn't the one that its stand-in names; InTheWay at the first path where something
-/// is that isn't the copy's. Then Folder, Rows, Path and Memory. It may be cut off, and done again: with `sync` the copy that is on the disk stays there,
-/// whenever the program or the power stops.
+/// is that isn't the copy's. Then Changed where a file was edited since, InTheWay where something came to be where a directory would be, Folder, Rows, Path and
+/// Memory: what is left of the work waits. It may be cut off, and done again: with `sync` the copy that is on the disk stays there, whenever the program or the
+/// power stops.
 pub fn resume<F: Folder>(alloc: Global, folder: &mut F, sync: bool) -> Result<Resumed, DiskFault>
     ensures steps { Goes (is_inside (codes ".svn-new")) (F.past folder.old) result (F.past folder.new) ⊎ Goes (is_doing (codes ".svn") is_outside) (F.past folder.old) result (F.past folder.new) }
     ensures queue { (rows : AllRows) → IsAlways (HasDatabaseRows rows) (F.past folder.old) → Goes (is_inside (codes ".svn-new")) (F.past folder.old) result (F.past folder.new) ⊎ Goes (is_doing (codes ".svn") (is_queued rows.work_queue)) (F.past folder.old) result (F.past folder.new) }
