@@ -1,7 +1,7 @@
 #!/bin/bash
 # Working copies that `svn` makes, and what `svnaudit` says of them before they are updated: the report, compared with what the client then sends to
-# `svnserve`; the lines, compared with those that `svn update` prints; and the nodes, compared with what the database has afterwards. And copies that
-# aren't true, of which `svn status` prints nothing.
+# `svnserve`; the lines, compared with those that `svn update` prints; and the nodes, compared with what the database has afterwards. Then sparse copies,
+# true and false, and others that aren't true, of which `svn status` prints nothing.
 #
 # It needs Debian's packages `subversion` and `sqlite3`, python3, and `svnaudit` as `tools/prove svnaudit` builds it: crates/svnaudit/out/svnaudit, or
 # the program that the variable SVNAUDIT names. RANDOM_COPIES says how many copies are made at random, by default 40. It works in a folder of its own,
@@ -9,6 +9,7 @@
 . "$(dirname "${BASH_SOURCE[0]}")/room.sh"
 . "$here/dump_history.sh"
 . "$here/false_copies.sh"
+. "$here/sparse_copies.sh"
 needs svnserve sqlite3 python3
 needs_built svnaudit
 
@@ -135,8 +136,87 @@ for name in $false_copies; do
     sed 's/^/    /' got
 done
 
+echo "== what the client mends of them"
+# mends NAME PATH..: the client takes each path out and back, and the copy is true
+mends() {
+    local name=$1 path
+    shift
+    rm -rf "$name.mended"; cp -a "$name" "$name.mended"
+    for path in "$@"; do
+        svn update -q --set-depth exclude "$name.mended/$path"
+        svn update -q --set-depth infinity "$name.mended/$path"
+    done
+    "$SVNAUDIT" check "$name.dump" "$name.mended" >got 2>&1
+    compared=$((compared + 1))
+    grep -q "^$name.mended: true: " got || { wrong=$((wrong + 1)); echo "$name ISN'T MENDED:"; sed 's/^/    /' got; }
+}
+mends another_node a
+mends replaced_directory d/s
+mends restored d
+mends wrong_revision d
+mends lost_row b
+mends odd_property d
+
+echo "== files, whatever svn status says"
+rm -rf plain; svn -q checkout "file://$PWD/repo/trunk@4" -r 4 plain
+"$SVNAUDIT" check dump plain --files >got 2>&1
+# (a.c has svn:eol-style and svn:keywords)
+printf '%s\n' 'plain: true: 27 nodes, r4' 'plain: 22 files compared, 1 files not compared' >wanted
+same 'the files of a checkout' wanted got
+# another text of the same size and time, and one that is gone
+touch -r plain/lib/one time; chmod u+w plain/lib/one; printf 'ten\n' >plain/lib/one; touch -r time plain/lib/one; rm plain/empty
+"$SVNAUDIT" check dump plain --files >got 2>errors
+[ $? = 1 ] || { wrong=$((wrong + 1)); echo "THE STATUS ISN'T 1"; }
+printf '%s\n' 'plain: true: 27 nodes, r4' 'plain: changed: empty: No such file or directory (os error 2)' \
+    'plain: changed: lib/one: the file has other bytes than its pristine text' 'plain: 22 files compared, 1 files not compared' >wanted
+LC_ALL=C sort -o wanted wanted; LC_ALL=C sort -o got got
+same 'changed files' wanted got
+
+echo "== another UUID, and late dumps"
+svnadmin hotcopy -q repo mirror; svnadmin setuuid mirror; svnadmin dump -q mirror >mirror.dump
+svnadmin dump -q -r 5:"$last" repo >late.dump 2>errors
+refused 'another UUID' "svnaudit: plain: the working copy is of repository $(svnlook uuid repo), not of $(svnlook uuid mirror)" "$SVNAUDIT" check mirror.dump plain
+"$SVNAUDIT" check mirror.dump plain --any-uuid >got 2>&1
+printf '%s\n' 'plain: true: 27 nodes, r4, whatever its UUID' >wanted
+same 'a mirror' wanted got
+"$SVNAUDIT" check late.dump plain >got 2>errors
+[ $? = 2 ] && grep -q '^svnaudit: plain: the dump begins with r5, and the copy has nodes of revisions before$' errors && [ ! -s got ] ||
+    { wrong=$((wrong + 1)); echo "A LATE DUMP ISN'T REFUSED"; cat errors; }
+rm -rf plain; svn -q checkout "file://$PWD/repo/trunk@8" -r 8 plain
+"$SVNAUDIT" check late.dump plain 2>errors | sed 's/[0-9]* nodes/N nodes/' >got
+printf '%s\n' 'plain: true: N nodes, r8' >wanted
+same 'a late dump of a later copy' wanted got
+for word in 8 r8; do
+    "$SVNAUDIT" show dump $word trunk/a.c >got; "$SVNAUDIT" show dump "$last" trunk >>got
+    "$SVNAUDIT" show dump 8 trunk/a.c >wanted; "$SVNAUDIT" show dump HEAD trunk >>wanted
+    same "a revision by $word and HEAD" wanted got
+done
+
+echo "== sparse copies, of which svn status prints nothing"
+make_sparse_copies
+for name in $sparse_copies; do
+    [ -z "$(svn status -q "$name")" ] || { wrong=$((wrong + 1)); echo "$name: SVN STATUS PRINTS SOMETHING"; }
+    "$SVNAUDIT" check sparse.dump "$name" >got 2>errors
+    same "$name" "$name.checked" got
+    sed 's/^/    /' got
+    # (with --texts whole the texts are compared byte by byte)
+    "$SVNAUDIT" check sparse.dump "$name" --texts whole >got 2>errors
+    same "$name, whole texts" "$name.checked" got
+    [ -s "$name.refused" ] || continue
+    for question in report update calls nodes; do
+        refused "$question of $name" "$(cat "$name.refused")" "$SVNAUDIT" $question sparse.dump "$name" --allow-untrue
+    done
+done
+# a folder is a copy of its own, whatever else of the copy is sparse
+"$SVNAUDIT" check sparse.dump grown/d/s grown/e excluded/d mixed_depths/d >got 2>&1
+printf '%s\n' 'grown/d/s: true: 2 nodes, r3' 'grown/e: true: 3 nodes, r3, 1 directory sparse' 'excluded/d: true: 7 nodes, r2, 1 entry excluded' \
+    'mixed_depths/d: true: 4 nodes, r3, 1 directory sparse' >wanted
+same 'folders of sparse copies' wanted got
+
 echo "== refusals"
 refused 'no copy' "svnaudit: repo: no working copy" "$SVNAUDIT" check dump repo
+refused 'a repository in place of a dump' 'svnaudit: repo: this is a folder: of a repository `svnadmin dump -q repo` writes the dump' "$SVNAUDIT" check repo odd
+refused 'a word that is no revision' 'svnaudit: r2x: no revision: it is a number, r and a number, or HEAD' "$SVNAUDIT" show dump r2x
 refused 'no folder' "svnaudit: nowhere: No such file or directory (os error 2)" "$SVNAUDIT" check dump nowhere
 refused 'another repository' "svnaudit: lost_row: the working copy is of repository $(svnlook uuid lost_row.repo), not of $(svnlook uuid repo)" "$SVNAUDIT" check dump lost_row
 refused 'an untrue copy' "svnaudit: lost_row: untrue: b: r1 has y at b, which the copy lacks (see --allow-untrue)" "$SVNAUDIT" report lost_row.dump lost_row
@@ -155,9 +235,11 @@ echo journal >odd/.svn/wc.db-journal
 refused 'a journal' 'svnaudit: odd: the database has a journal: a client is at work, or was cut off, and `svn cleanup` comes first' "$SVNAUDIT" check dump odd
 : >odd/.svn/wc.db-journal
 client update -q -r 4 --set-depth files odd/lib
-refused 'another depth' "svnaudit: odd: lib: a directory of another depth than infinity" "$SVNAUDIT" check dump odd
+refused 'another depth' "svnaudit: odd: lib: a directory of another depth than infinity" "$SVNAUDIT" update dump odd
+sqlite3 odd/.svn/wc.db "update nodes set depth = 'unknown' where local_relpath = 'lib'"
+refused 'no depth' "svnaudit: odd: lib: a directory of another depth than infinity" "$SVNAUDIT" check dump odd
 checkout odd trunk 4; client update -q --set-depth exclude odd/lib
-refused 'an excluded node' "svnaudit: odd: lib: an excluded node" "$SVNAUDIT" check dump odd
+refused 'an excluded node' "svnaudit: odd: lib: an excluded node" "$SVNAUDIT" update dump odd
 sqlite3 odd/.svn/wc.db 'pragma user_version = 29'
 refused 'another format' "svnaudit: odd: working copy format 29; format 31 is read" "$SVNAUDIT" check dump odd
 printf 'no database' >odd/.svn/wc.db

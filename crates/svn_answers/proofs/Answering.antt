@@ -4,6 +4,7 @@ use Rattle.std.specs.List.{AllByRecursion}
 use Rattle.std.specs.Option.{option_copied}
 use Rattle.std.proofs.lemmas.List.{map-append}
 use Rattle.std.proofs.lemmas.List.Concat.{flat_map-append}
+use Rattle.svn_wcdb.specs.declared.depth.Takes.TheVariants.{Sparse}
 use Rattle.svn_answers.specs.declared.verdict.Verdict.{Verdict}
 use Rattle.svn_answers.specs.declared.verdict.Verdict.TheVariants.{True, Untrue, Refused}
 use Rattle.svn_answers.specs.Verdicts.{worse, worst}
@@ -100,14 +101,14 @@ none_yet F opens stayed compared = record { answers = []; answered = none_answer
 pub next_word : {F : Type 0} (opens : Opens) (stayed : Stayed) (compared : Compared) (names : List (Bor (List ℕ))) (i : ℕ) (d : Bor (List ℕ))
     (v w new : Verdict) (text : List ℕ) (heard : Heard F) (a : Answer F) → i < length names
     → Checks F opens stayed compared (map (λ (n : Bor (List ℕ)). n.now) (take i names)) v text heard
-    → IsAnswer opens stayed compared (get_or names i d).now a → w ≡ verdict_of a → new ≡ worse v w
+    → IsAnswer Sparse opens stayed compared (get_or names i d).now a → w ≡ verdict_of a → new ≡ worse v w
     → Checks F opens stayed compared (map (λ (n : Bor (List ℕ)). n.now) (take (i + 1) names)) new (text ++ answer_text (get_or names i d).now a)
     (heard ++ notices_of (get_or names i d).now a)
 next_word {F} opens stayed compared names i d v w new text heard a within before one is worst_of_two = record {
   answers = before.answers ++ ((get_or names i d).now, a) ∷ [];
   answered = word_answered names i d before.answers v w new text heard a within before.answered is worst_of_two;
   each =
-      each_more (λ (b : List ℕ × Answer F). IsAnswer opens stayed compared b.0 b.1) before.answers ((get_or names i d).now, a) before.each one;
+      each_more (λ (b : List ℕ × Answer F). IsAnswer Sparse opens stayed compared b.0 b.1) before.answers ((get_or names i d).now, a) before.each one;
 }
 
 -- ---- by a server

@@ -12,3 +12,5 @@ pub mod Loadings
 pub mod TreeOrder
 -- Lines of a script, done and written.
 pub mod Writings
+-- the line of a true copy
+pub mod CheckedLines

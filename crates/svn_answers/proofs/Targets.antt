@@ -7,6 +7,7 @@ use Rattle.svn_model.specs.declared.base_node.BaseNode.{BaseNode}
 use Rattle.svn_model.specs.Nodes.{get_in, InPathOrder, IsTrueOf, IsWorkingCopy}
 use Rattle.law_drive.specs.Laws.{the_calls_are_a_drive}
 use Rattle.law_update.specs.Laws.{crawl_says_what_stands, drive_composes}
+use Rattle.svn_audit.specs.Sparse.{WholeCopies}
 use Rattle.svn_answers.specs.Laws as laws
 use Rattle.svn_answers.specs.Topics.{calls_to, input_to, LeadsToTarget}
 
@@ -27,9 +28,11 @@ leads_to_target says are_a_drive composes h nodes history in_order shape true_of
     })
     (are_a_drive d false history said.report said.checkable there)).ends p
 
-pub nodes_are_of_the_target : laws.nodes_are_of_the_target
-nodes_are_of_the_target texts store database below compared rev found text audit told =
+-- (a whole copy may lack nothing)
+pub nodes_are_of_the_target : WholeCopies → laws.nodes_are_of_the_target
+nodes_are_of_the_target lack_nothing texts store database below compared rev found text audit told =
     let updated = told.answer in
     let true_of : IsTrueOf compared.history (get_in found.audited.copy) =
-    subst (IsTrueOf compared.history) (λ i p. sym (audit.nodes p) i) (audit.none_is_true (told.allowed refl)) in
+    subst (IsTrueOf compared.history) (λ i p. sym (audit.nodes p) i)
+    ((lack_nothing compared.history (get_in audit.kept)).0 (audit.none_is_true (told.allowed refl))) in
     record { target = updated.updated; at = updated.target true_of; in_order = updated.in_order; lines = updated.lines }

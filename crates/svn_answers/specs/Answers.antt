@@ -1,21 +1,25 @@
 -- What becomes of the copies that a check names.
---     IsAudited opens stayed compared word audited      a word opened a copy that stayed as it was, of the same repository, and this is the verdict on it
---     IsCopyFault opens stayed compared word fault      why the copy of a word isn't audited: where that is said of its bytes, it stayed as it was
+-- Sparse copies are taken by `check` alone.
+--     IsAudited takes opens stayed compared word audited      a word opened a copy that stayed as it was, of the same repository, and this is the verdict on it
+--     IsCopyFault takes opens stayed compared word fault      why the copy of a word isn't audited: where that is said of its bytes, it stayed as it was
 --     answer_text word answer, verdict_of answer      what is printed of a word's answer, and its verdict
 --     notices_of word answer      what is reported of it: what was passed over of a copy, or why it is refused
 --     Answered words answers verdict text heard      these are the answers of the words, in their order, with all lines, all notices, and the worst verdict
 --     Checks opens stayed compared words verdict text heard      each word was answered by what its copy is
 --     Tells opens stayed compared inquiry word verdict text heard      this was written of what is asked of the word's copy, with that verdict and these notices
-use Rattle.std.specs.Prelude.{◌≡◌, ℕ, List, [], ◌∷◌, ◌++◌, map, false, Option, Some, Result, Ok, Err}
+use Rattle.std.specs.Prelude.{◌≡◌, ℕ, Bool, true, false, ◌&&◌, List, [], ◌∷◌, ◌++◌, map, nat_lt, Option, Some, None, Result, Ok, Err, if◌then◌else◌}
 use Rattle.std.specs.Option.{option_copied}
 use Rattle.std.specs.List.{flat_map, AllByRecursion}
 use Rattle.svn_types.specs.Names.{Path}
 use Rattle.svn_repo.specs.History.{History, new_history}
+use Rattle.svn_model.specs.declared.base_node.BaseNode.{BaseNode}
 use Rattle.svn_dump.specs.declared.sections.Limits.{Limits}
 use Rattle.svn_dump.specs.declared.sections.Texts.{Texts}
 use Rattle.svn_history.specs.Loading.{LoadsDump}
+use Rattle.svn_wcdb.specs.declared.depth.Takes.{Takes}
+use Rattle.svn_wcdb.specs.declared.depth.Takes.TheVariants.{Whole, Sparse}
+use Rattle.svn_wcdb.specs.Sparse.{seen_left_out, left_out_in}
 use Rattle.svn_audit.specs.declared.reason.Untrue.{Untrue}
-use Rattle.svn_disk_audit.specs.declared.auditing.Audited.{Audited}
 use Rattle.svn_disk_audit.specs.declared.fault.AuditFault.{AuditFault}
 use Rattle.svn_disk_audit.specs.Pristine.{Store}
 use Rattle.svn_disk_audit.specs.Audits.{IsAudit, IsVerdict, IsAccepted, IsAuditFault}
@@ -23,7 +27,7 @@ use Rattle.svn_disk_audit.specs.Repositories.{IsOfRepository}
 use Rattle.svn_answers.specs.declared.asked.History.{History as CodeHistory}
 use Rattle.svn_answers.specs.declared.asked.OnDisk.{OnDisk}
 use Rattle.svn_answers.specs.declared.fault.CopyFault.{CopyFault}
-use Rattle.svn_answers.specs.declared.fault.CopyFault.TheVariants.{Refused, Audit}
+use Rattle.svn_answers.specs.declared.fault.CopyFault.TheVariants.{Refused, Audit, Early}
 use Rattle.svn_answers.specs.declared.fault.TellFault.{TellFault}
 use Rattle.svn_answers.specs.declared.fault.TellFault.TheVariants as faults
 use Rattle.svn_answers.specs.declared.notices.Notice.TheVariants.{Unanswered}
@@ -31,20 +35,32 @@ use Rattle.svn_answers.specs.declared.verdict.Verdict.{Verdict}
 use Rattle.svn_answers.specs.declared.verdict.Verdict.TheVariants as verdicts
 use Rattle.svn_answers.specs.declared.telling.Inquiry.{Inquiry}
 use Rattle.svn_answers.specs.declared.topic.TopicFault.{TopicFault}
-use Rattle.svn_answers.specs.Lines.{checked_text}
+use Rattle.svn_answers.specs.Lines.{or_zero, lowest, checked_text}
 use Rattle.svn_answers.specs.Notices.{Heard, of_notes}
 use Rattle.svn_answers.specs.Topics.{IsTopicText, IsTopicFault}
 use Rattle.svn_answers.specs.Verdicts.{worst}
 
--- what copies are compared with: a history, how it keeps texts, and the UUID of its repository, where that is known
+-- what copies are compared with: a history, how it keeps texts, the UUID of its repository, where that is known, and whether that is passed over; and the
+-- first revision of its dump
 pub record Compared : Type 0 where
   pub history : History
   pub texts : Texts
   pub uuid : Option (List ℕ)
+  pub any_uuid : Bool
+  pub first : ℕ
 
 -- as the code has it
 abbrev pub compared : CodeHistory → Compared
-compared h = record { history = h.repo.now; texts = h.texts; uuid = option_copied h.uuid }
+compared h =
+    record { history = h.repo.now; texts = h.texts; uuid = option_copied h.uuid; any_uuid = h.any_uuid; first = h.first }
+
+-- the UUID that a copy must have, if one is asked for
+abbrev pub wanted_uuid : Compared → Option (List ℕ)
+wanted_uuid c = if c.any_uuid then None else c.uuid
+
+-- there are nodes of revisions before the first of a dump, which doesn't tell of them; revision 0 has nothing
+abbrev pub has_early : ℕ → List (Path × BaseNode) → Bool
+has_early first nodes = nat_lt 1 first && nat_lt (or_zero (lowest nodes)) first
 
 -- by a word, a copy is opened: the bytes of its database, a path in it, and what is known of its pristine texts
 abbrev pub Opens : Type 1
@@ -54,38 +70,50 @@ Opens = List ℕ → List ℕ → Path → Store → Type 0
 abbrev pub Stayed : Type 1
 Stayed = List ℕ → List ℕ → Type 0
 
-pub record IsAudited (opens : Opens) (stayed : Stayed) (compared : Compared) (name : List ℕ) (audited : Audited) : Type 0 where
+pub record IsAudited (takes : Takes) (opens : Opens) (stayed : Stayed) (compared : Compared) (name : List ℕ) (found : OnDisk)
+    : Type 0 where
   pub database : List ℕ
   pub below : Path
   pub store : Store
   pub opened : opens name database below store
   pub same : stayed name database
-  pub of_repository : IsAccepted (IsOfRepository compared.uuid) database below
-  pub audit : IsAudit compared.texts store compared.history database below audited.copy audited.untrue.items
+  pub of_repository : IsAccepted takes (IsOfRepository (wanted_uuid compared)) database below
+  pub any_uuid : found.any_uuid ≡ compared.any_uuid
+  pub left_out : seen_left_out found.audited.left_out ≡ left_out_in takes below database
+  pub audit : IsAudit takes compared.texts store compared.history database below found.audited.copy found.audited.untrue.items
   -- where the history is that of a dump, it is the verdict on these bytes
   pub verdict : (limits : Limits) (dump : List ℕ) → LoadsDump limits compared.texts (Some dump) new_history compared.history
-      → IsVerdict compared.texts limits dump store database below audited.untrue.items
+      → IsVerdict takes compared.texts limits dump store database below found.audited.untrue.items
 
-pub record IsAuditRefusal {F : Type 0} (opens : Opens) (stayed : Stayed) (compared : Compared) (name : List ℕ) (fault : AuditFault F) : Type 0 where
+pub record IsAuditRefusal {F : Type 0} (takes : Takes) (opens : Opens) (stayed : Stayed) (compared : Compared) (name : List ℕ) (fault : AuditFault F)
+    : Type 0 where
   pub database : List ℕ
   pub below : Path
   pub store : Store
   pub opened : opens name database below store
   pub same : stayed name database
-  pub why : IsAuditFault compared.texts store database below fault
+  pub why : IsAuditFault takes compared.texts store database below fault
 
-abbrev pub IsCopyFault : {F : Type 0} → Opens → Stayed → Compared → List ℕ → CopyFault F → Type 0
-IsCopyFault opens stayed compared name (Refused fault) = Unit {0}
-IsCopyFault opens stayed compared name (Audit fault) = IsAuditRefusal opens stayed compared name fault
+-- it was audited, and has a node of which the history doesn't tell
+abbrev pub IsEarly : Takes → Opens → Stayed → Compared → List ℕ → ℕ → Type 0
+IsEarly takes opens stayed compared name first =
+    (found : OnDisk) × IsAudited takes opens stayed compared name found × (first ≡ compared.first)
+    × (has_early compared.first found.audited.copy ≡ true)
+
+abbrev pub IsCopyFault : {F : Type 0} → Takes → Opens → Stayed → Compared → List ℕ → CopyFault F → Type 0
+IsCopyFault takes opens stayed compared name (Refused fault) = Unit {0}
+IsCopyFault takes opens stayed compared name (Audit fault) = IsAuditRefusal takes opens stayed compared name fault
+IsCopyFault takes opens stayed compared name (Early first) = IsEarly takes opens stayed compared name first
 
 -- ---- answers
 
 abbrev pub Answer : Type 0 → Type 0
 Answer F = Result OnDisk (CopyFault F)
 
-abbrev pub IsAnswer : {F : Type 0} → Opens → Stayed → Compared → List ℕ → Answer F → Type 0
-IsAnswer opens stayed compared name (Ok found) = IsAudited opens stayed compared name found.audited
-IsAnswer opens stayed compared name (Err fault) = IsCopyFault opens stayed compared name fault
+abbrev pub IsAnswer : {F : Type 0} → Takes → Opens → Stayed → Compared → List ℕ → Answer F → Type 0
+IsAnswer takes opens stayed compared name (Ok found) =
+    IsAudited takes opens stayed compared name found × (has_early compared.first found.audited.copy ≡ false)
+IsAnswer takes opens stayed compared name (Err fault) = IsCopyFault takes opens stayed compared name fault
 
 abbrev pub verdict_on : List Untrue → Verdict
 verdict_on [] = verdicts.True
@@ -97,7 +125,8 @@ verdict_of (Err fault) = verdicts.Refused
 
 -- a refused copy has no line
 abbrev pub answer_text : {F : Type 0} → List ℕ → Answer F → List ℕ
-answer_text name (Ok found) = checked_text name found.audited.copy found.audited.untrue.items
+answer_text name (Ok found) =
+    checked_text name found.audited.copy found.audited.untrue.items (seen_left_out found.audited.left_out) found.any_uuid
 answer_text name (Err fault) = []
 
 -- what was passed over of a copy
@@ -124,7 +153,7 @@ pub record Checks (F : Type 0) (opens : Opens) (stayed : Stayed) (compared : Com
     (text : List ℕ) (heard : Heard F) : Type 0 where
   pub answers : List (List ℕ × Answer F)
   pub answered : Answered F words answers verdict text heard
-  pub each : AllByRecursion (λ a. IsAnswer opens stayed compared a.0 a.1) answers
+  pub each : AllByRecursion (λ a. IsAnswer Sparse opens stayed compared a.0 a.1) answers
 
 -- ---- what is asked of one copy
 
@@ -165,5 +194,5 @@ TellsOf {F} compared inquiry name found verdicts.Refused text heard =
 pub record Tells (F : Type 0) (opens : Opens) (stayed : Stayed) (compared : Compared) (inquiry : Inquiry) (name : List ℕ) (verdict : Verdict)
     (text : List ℕ) (heard : Heard F) : Type 0 where
   pub found : Answer F
-  pub is : IsAnswer opens stayed compared name found
+  pub is : IsAnswer Whole opens stayed compared name found
   pub told : TellsOf compared inquiry name found verdict text heard

@@ -2,6 +2,7 @@
 -- known.
 --     examiner_text, copy_fault_text, topic_text, tell_text      of a fault
 use Rattle.std.specs.Prelude.{◌++◌, Some, codes}
+use Rattle.std.specs.Fmt.{decimal}
 use Rattle.svn_model.specs.declared.drive_fault.DriveFault.{DriveFault}
 use Rattle.svn_audit.specs.Reasons.{untrue_text}
 use Rattle.svn_disk_audit.specs.FaultTexts.{TextOf}
@@ -10,7 +11,7 @@ use Rattle.svn_disk_audit.specs.declared.repository.RepositoryFault.{RepositoryF
 use Rattle.svn_answers.specs.declared.examination.ExaminerFault.{ExaminerFault}
 use Rattle.svn_answers.specs.declared.examination.ExaminerFault.TheVariants.{Repository, Copy as OfCopy}
 use Rattle.svn_answers.specs.declared.fault.CopyFault.{CopyFault}
-use Rattle.svn_answers.specs.declared.fault.CopyFault.TheVariants.{Refused, Audit}
+use Rattle.svn_answers.specs.declared.fault.CopyFault.TheVariants.{Refused, Audit, Early}
 use Rattle.svn_answers.specs.declared.fault.TellFault.{TellFault}
 use Rattle.svn_answers.specs.declared.fault.TellFault.TheVariants.{Copy, Untrue, Topic}
 use Rattle.svn_answers.specs.declared.topic.TopicFault.{TopicFault}
@@ -23,6 +24,8 @@ examiner_text of_repository of_copy (OfCopy fault) = of_copy fault
 abbrev pub copy_fault_text : {F : Type 0} → TextOf F → TextOf (AuditFault (ExaminerFault F)) → TextOf (CopyFault F)
 copy_fault_text of_copy of_audit (Refused fault) = of_copy fault
 copy_fault_text of_copy of_audit (Audit fault) = of_audit fault
+copy_fault_text of_copy of_audit (Early first) =
+    Some (codes "the dump begins with r" ++ decimal first ++ codes ", and the copy has nodes of revisions before")
 
 abbrev pub topic_text : TextOf DriveFault → TextOf TopicFault
 topic_text of_drive (Drive fault) = of_drive fault

@@ -8,6 +8,7 @@ use Rattle.svn_dump.specs.declared.sections.Texts.{Texts}
 use Rattle.svn_model.specs.declared.base_node.BaseNode.{BaseNode}
 use Rattle.svn_model.specs.Nodes.{InPathOrder}
 use Rattle.svn_wc.specs.Lines.{copy_text}
+use Rattle.svn_wcdb.specs.declared.depth.Takes.TheVariants.{Whole}
 use Rattle.svn_disk_audit.specs.Pristine.{Store}
 use Rattle.svn_disk_audit.specs.Audits.{IsAudit}
 use Rattle.svn_answers.specs.declared.asked.OnDisk.{OnDisk}
@@ -29,6 +30,6 @@ nodes_of_true rev = record { topic = Nodes rev; allow_untrue = false }
 abbrev pub nodes_are_of_the_target : Type 0
 nodes_are_of_the_target =
     (texts : Texts) (store : Store) (database : List ℕ) (below : Path) (compared : Compared) (rev : Option ℕ) (found : OnDisk) (text : List ℕ)
-    → IsAudit texts store compared.history database below found.audited.copy found.audited.untrue.items
+    → IsAudit Whole texts store compared.history database below found.audited.copy found.audited.untrue.items
     → IsTold compared (nodes_of_true rev) found text
     → IsTargetText compared.history found.audited.copy rev text

@@ -1,7 +1,8 @@
 -- What `check` prints of a working copy.
 --     source_text word      the word that names it, as it is printed
 --     lowest nodes, highest nodes      the least and the greatest revision of the nodes that have one
---     checked_text word nodes untrue      the line of a true copy, `wc: true: 7 nodes, r2 to r3`, or the line of each untrue path
+--     left_out_text left_out      what a sparse copy leaves out: `, 4 directories sparse, 1 entry withheld`, or nothing
+--     checked_text word nodes untrue left_out any_uuid      the line of a true copy, `wc: true: 7 nodes, r2 to r3`, or the line of each untrue path
 use Rattle.std.specs.Prelude.{ℕ, min, max, Bool, List, [], ◌∷◌, ◌++◌, length, nat_eq, Option, Some, None, bytes_eq, codes, if◌then◌else◌}
 use Rattle.std.specs.Char.{is_ascii_control}
 use Rattle.std.specs.Fmt.{decimal}
@@ -10,6 +11,7 @@ use Rattle.svn_types.specs.Names.{Path}
 use Rattle.svn_editor.specs.Words.{word}
 use Rattle.svn_model.specs.declared.base_node.BaseNode.{BaseNode}
 use Rattle.svn_model.specs.Nodes.{present_revision}
+use Rattle.svn_wcdb.specs.Sparse.{LeftOut}
 use Rattle.svn_audit.specs.declared.reason.Untrue.{Untrue}
 use Rattle.svn_audit.specs.Reasons.{untrue_text}
 
@@ -50,16 +52,35 @@ abbrev pub span_text : ℕ → ℕ → List ℕ
 span_text first last =
     if nat_eq first last then codes "r" ++ decimal last else codes "r" ++ decimal first ++ codes " to r" ++ decimal last
 
+-- ---- what is left out
+
+-- so many of a sort, of which there may be none, with the words for one and for several
+abbrev pub left_out_part : ℕ → List ℕ → List ℕ → List ℕ
+left_out_part n one several =
+    if nat_eq n 0 then []
+    else if nat_eq n 1 then codes ", 1 " ++ one
+    else codes ", " ++ decimal n ++ codes " " ++ several
+
+abbrev pub left_out_text : LeftOut → List ℕ
+left_out_text l =
+    left_out_part (length l.depths) (codes "directory sparse") (codes "directories sparse")
+    ++ left_out_part l.excluded (codes "entry excluded") (codes "entries excluded")
+    ++ left_out_part l.withheld (codes "entry withheld") (codes "entries withheld")
+
 -- ---- lines
 
-abbrev pub true_line : List ℕ → List (Path × BaseNode) → List ℕ
-true_line name nodes =
+-- that the repository may be another by its UUID
+abbrev pub uuid_text : Bool → List ℕ
+uuid_text any_uuid = if any_uuid then codes ", whatever its UUID" else []
+
+abbrev pub true_line : List ℕ → List (Path × BaseNode) → LeftOut → Bool → List ℕ
+true_line name nodes left_out any_uuid =
     source_text name ++ codes ": true: " ++ decimal (length nodes) ++ codes " nodes, " ++ span_text (or_zero (lowest nodes)) (or_zero (highest nodes))
-    ++ 10 ∷ []
+    ++ left_out_text left_out ++ uuid_text any_uuid ++ 10 ∷ []
 
 abbrev pub untrue_line : List ℕ → Untrue → List ℕ
 untrue_line name u = source_text name ++ codes ": untrue: " ++ untrue_text u ++ 10 ∷ []
 
-abbrev pub checked_text : List ℕ → List (Path × BaseNode) → List Untrue → List ℕ
-checked_text name nodes [] = true_line name nodes
-checked_text name nodes (u ∷ us) = flat_map (untrue_line name) (u ∷ us)
+abbrev pub checked_text : List ℕ → List (Path × BaseNode) → List Untrue → LeftOut → Bool → List ℕ
+checked_text name nodes [] left_out any_uuid = true_line name nodes left_out any_uuid
+checked_text name nodes (u ∷ us) left_out any_uuid = flat_map (untrue_line name) (u ∷ us)

@@ -4,10 +4,12 @@
 --     IsConnected url old origin at      the connection on which a copy is asked about: the one that there is, or one on which nothing came
 --     IsLiveAnswer .. word answer old new      a word's copy is refused; or it was asked about, and what it printed follows from the answers that came
 --     LiveChecks .. words verdict text heard old new      each word was answered so, in their order, with these lines and notices, and the worst verdict
-use Rattle.std.specs.Prelude.{◌≡◌, ℕ, List, [], ◌∷◌, Option, Some, None, option_map, unwrap_or, Ok, Err}
+use Rattle.std.specs.Prelude.{◌≡◌, ℕ, false, List, [], ◌∷◌, Option, Some, None, option_map, unwrap_or, Ok, Err}
 use Rattle.svn_types.specs.Names.{Path}
 use Rattle.svn_model.specs.Nodes.{get_in}
 use Rattle.svn_wcdb.specs.declared.base_tree.Origin.{Origin}
+use Rattle.svn_wcdb.specs.declared.depth.Takes.TheVariants.{Whole}
+use Rattle.svn_wcdb.specs.Sparse.{seen_left_out, nothing_left_out}
 use Rattle.svn_dump.specs.declared.sections.Texts.TheVariants.{Md5}
 use Rattle.svn_disk_audit.specs.declared.auditing.DiskCopy.{DiskCopy}
 use Rattle.svn_disk_audit.specs.declared.fault.AuditFault.{AuditFault}
@@ -18,7 +20,7 @@ use Rattle.svn_ask.specs.declared.opening.Speaker.{Speaker}
 use Rattle.svn_live_audit.specs.Conversations.{Audits, unheard}
 use Rattle.svn_answers.specs.declared.live.Connected.{Connected}
 use Rattle.svn_answers.specs.declared.fault.CopyFault.{CopyFault}
-use Rattle.svn_answers.specs.declared.fault.CopyFault.TheVariants.{Refused, Audit}
+use Rattle.svn_answers.specs.declared.fault.CopyFault.TheVariants.{Refused, Audit, Early}
 use Rattle.svn_answers.specs.declared.asked.OnDisk.{OnDisk}
 use Rattle.svn_answers.specs.declared.verdict.Verdict.{Verdict}
 use Rattle.svn_answers.specs.Answers.{Answer, Answered, Opens, Stayed}
@@ -33,9 +35,11 @@ pub record IsLiveCopy (opens : Opens) (stayed : Stayed) (uuid : Option (List ℕ
   pub store : Store
   pub opened : opens name database below store
   pub same : stayed name database
-  pub of_repository : IsAccepted (IsOfRepository uuid) database below
-  pub copy : IsCopyOf Md5 store database below found.copy
-  pub beside : IsAccepted (IsFrom found.origin found.notes) database below
+  pub of_repository : IsAccepted Whole (IsOfRepository uuid) database below
+  pub copy : IsCopyOf Whole Md5 store database below found.copy
+  pub beside : IsAccepted Whole (IsFrom found.origin found.notes) database below
+  -- it is a whole copy
+  pub left_out : seen_left_out found.left_out ≡ nothing_left_out
 
 pub record IsLiveRefusal {F : Type 0} (opens : Opens) (stayed : Stayed) (name : List ℕ) (fault : AuditFault F) : Type 0 where
   pub database : List ℕ
@@ -43,11 +47,12 @@ pub record IsLiveRefusal {F : Type 0} (opens : Opens) (stayed : Stayed) (name : 
   pub store : Store
   pub opened : opens name database below store
   pub same : stayed name database
-  pub why : IsAuditFault Md5 store database below fault
+  pub why : IsAuditFault Whole Md5 store database below fault
 
 abbrev pub IsLiveCopyFault : {F : Type 0} → Opens → Stayed → List ℕ → CopyFault F → Type 0
 IsLiveCopyFault opens stayed name (Refused fault) = Unit {0}
 IsLiveCopyFault opens stayed name (Audit fault) = IsLiveRefusal opens stayed name fault
+IsLiveCopyFault opens stayed name (Early first) = ⊥
 
 -- ---- a server
 
@@ -73,6 +78,8 @@ module _ {I O : Type 0} (remaining : I → Option (List ℕ)) (url : Option (Lis
     pub same : after.uuid ≡ at.uuid
     pub copy : found.audited.copy ≡ read.copy
     pub notes : found.notes ≡ Some read.notes
+    pub left_out : found.audited.left_out ≡ read.left_out
+    pub uuid : found.any_uuid ≡ false
     pub audit : Audits remaining at.link.ends.input at.link.asking (get_in read.copy) read.copy after.link.ends.input after.link.asking
         found.audited.untrue.items
 

@@ -1,8 +1,10 @@
 //! Questions about working copies, and their answers.
-ghost use Rattle.std.specs.Prelude.{◌≡◌, ℕ, List, map, IfOk, IfErr, OnOk, Ok};
+ghost use Rattle.std.specs.Prelude.{◌≡◌, ℕ, false, List, map, IfOk, IfErr, OnOk, Ok};
 ghost use Rattle.std.specs.Io.KnownBytes.{Appends};
 ghost use Rattle.std.specs.Option.{option_copied};
-ghost use Rattle.svn_answers.specs.Answers.{Answer, IsAudited, IsCopyFault, IsAnswer, Checks, answer_text, notices_of, verdict_of, compared};
+ghost use Rattle.svn_wcdb.specs.declared.depth.Takes.TheVariants as takes;
+ghost use Rattle.svn_wcdb.specs.Sparse.{seen_left_out};
+ghost use Rattle.svn_answers.specs.Answers.{Answer, IsAudited, IsCopyFault, IsAnswer, Checks, answer_text, notices_of, verdict_of, compared, has_early, wanted_uuid};
 ghost use Rattle.svn_answers.specs.Lines.{checked_text};
 ghost use Rattle.svn_answers.specs.Notices.{Heard, HearsAll};
 
@@ -11,14 +13,16 @@ use crate::copies::{Copies, Opened};
 use crate::examination::Examination;
 use crate::fault::{AnswerFault, CopyFault, TellFault};
 use crate::notices::{Notices, hear_fault, hear_notes};
+use crate::revisions::{or_zero, span_of};
 use crate::source::Source;
 use crate::verdict::Verdict;
 use std::alloc::Global;
 use std::io::Write;
-use svn_disk_audit::{Audited, Question, audit};
+use svn_disk_audit::{Audited, Question, Reading, audit};
 use svn_dump::Texts;
 use svn_repo::Repo;
-use svn_wcdb::Notes;
+use svn_wc::WorkingCopy;
+use svn_wcdb::{Notes, Takes};
 
 /// What working copies are compared with.
 #[derive(Clone, Copy)]
@@ -29,6 +33,10 @@ pub struct History<'a> {
     pub texts: Texts,
     /// Its UUID, if the dump has one.
     pub uuid: Option<&'a [u8]>,
+    /// Whether copies of another UUID are taken too.
+    pub any_uuid: bool,
+    /// The number of the dump's first revision, 0 where it has none: it doesn't tell of those before.
+    pub first: u64,
 }
 
 /// What a working copy on disk has.
@@ -38,6 +46,15 @@ pub struct OnDisk {
     pub audited: Audited,
     /// What was passed over.
     pub notes: Option<Notes>,
+    /// Whether its repository may be another by its UUID.
+    pub any_uuid: bool,
+}
+
+// Whether there are nodes of revisions before the first of a dump, which doesn't tell of them. Revision 0 has nothing.
+fn has_early(first: u64, copy: &WorkingCopy) -> bool
+    ensures { result ≡ has_early first copy.now }
+{
+    first > 1 && or_zero(span_of(copy).first) < first
 }
 
 /// What is asked of working copies: they are opened, and compared with a history.
@@ -52,11 +69,23 @@ pub struct Asked<'a, C> {
 }
 
 impl<C: Copies> Asked<'_, C> {
-    /// Audits the copy that a word names, or the part of one that is in the folder of that name, as a copy of its own. Refused as the opener refuses it,
-    /// then where it was changed while it was read, then as [`audit`] refuses it: so no fault is reported of bytes that were read while they changed.
-    pub fn audit_copy(&self, name: &str) -> Result<OnDisk, CopyFault<C::Fault>>
-        ensures audited { IfOk result (λ d. IsAudited (C.opens self.now.copies.now) (C.stayed self.now.copies.now) (compared self.now.history) name.now d.audited) }
-        ensures refused { IfErr result (λ e. IsCopyFault (C.opens self.now.copies.now) (C.stayed self.now.copies.now) (compared self.now.history) name.now e) }
+    // The UUID that a copy must have, if one is asked for.
+    fn wanted_uuid(&self) -> Option<&[u8]>
+        ensures { option_copied result ≡ wanted_uuid (compared self.now.history) }
+    {
+        if self.history.any_uuid {
+            None
+        } else {
+            self.history.uuid
+        }
+    }
+
+    /// Audits the copy that a word names, or the part of one that is in the folder of that name, as a copy of its own, which may be sparse where such
+    /// copies are taken. Refused as the opener refuses it, then where it was changed while it was read, then as [`audit`] refuses it: so no fault is
+    /// reported of bytes that were read while they changed.
+    fn audit_opened(&self, takes: Takes, name: &str) -> Result<OnDisk, CopyFault<C::Fault>>
+        ensures audited { IfOk result (λ d. IsAudited takes (C.opens self.now.copies.now) (C.stayed self.now.copies.now) (compared self.now.history) name.now d) }
+        ensures refused { IfErr result (λ e. IsCopyFault takes (C.opens self.now.copies.now) (C.stayed self.now.copies.now) (compared self.now.history) name.now e) }
     {
         let Opened {
             database,
@@ -68,14 +97,18 @@ impl<C: Copies> Asked<'_, C> {
         };
         let mut examination = Examination {
             alloc: self.alloc,
-            uuid: self.history.uuid,
+            uuid: self.wanted_uuid(),
             notes: None,
             examiner,
         };
-        let question = Question {
-            repo: self.history.repo,
+        let reading = Reading {
+            takes,
             texts: self.history.texts,
             below: &below,
+        };
+        let question = Question {
+            repo: self.history.repo,
+            reading,
         };
         let audited = audit(self.alloc, question, &database, &mut examination);
         if let Err(fault) = self
@@ -88,9 +121,23 @@ impl<C: Copies> Asked<'_, C> {
             Ok(audited) => Ok(OnDisk {
                 audited,
                 notes: examination.notes,
+                any_uuid: self.history.any_uuid,
             }),
             Err(fault) => Err(CopyFault::Audit(fault)),
         }
+    }
+
+    /// The same; and refused, where the copy has nodes of revisions before the first of the dump.
+    pub fn audit_copy(&self, takes: Takes, name: &str) -> Result<OnDisk, CopyFault<C::Fault>>
+        ensures audited { IfOk result (λ d. IsAudited takes (C.opens self.now.copies.now) (C.stayed self.now.copies.now) (compared self.now.history) name.now d × (has_early (compared self.now.history).first d.audited.copy ≡ false)) }
+        ensures refused { IfErr result (λ e. IsCopyFault takes (C.opens self.now.copies.now) (C.stayed self.now.copies.now) (compared self.now.history) name.now e) }
+    {
+        let found = self.audit_opened(takes, name)?;
+        let first = self.history.first;
+        if has_early(first, &found.audited.copy) {
+            return Err(CopyFault::Early(first));
+        }
+        Ok(found)
     }
 
     // Answers the question of one copy.
@@ -100,12 +147,12 @@ impl<C: Copies> Asked<'_, C> {
         output: &mut W,
         notices: &mut N,
     ) -> Result<Verdict, AnswerFault>
-        ensures { IfOk result (λ v. (a : Answer C.Fault) × IsAnswer (C.opens self.now.copies.now) (C.stayed self.now.copies.now) (compared self.now.history) name.now a × (v ≡ verdict_of a) × Appends (W.contents output.old) (W.contents output.new) (answer_text name.now a) × HearsAll N.hears (notices_of name.now a) notices.old notices.new) }
+        ensures { IfOk result (λ v. (a : Answer C.Fault) × IsAnswer takes.Sparse (C.opens self.now.copies.now) (C.stayed self.now.copies.now) (compared self.now.history) name.now a × (v ≡ verdict_of a) × Appends (W.contents output.old) (W.contents output.new) (answer_text name.now a) × HearsAll N.hears (notices_of name.now a) notices.old notices.new) }
     {
-        match self.audit_copy(name) {
+        match self.audit_copy(Takes::Sparse, name) {
             Ok(found) => {
                 hear_notes(name, found.notes, notices);
-                write_checked(name, &found.audited, output)?;
+                write_checked(name, &found, output)?;
                 Ok(Verdict::on(&found.audited.untrue))
             }
             Err(fault) => {
@@ -138,15 +185,17 @@ impl<C: Copies> Asked<'_, C> {
 /// Writes the lines of a copy.
 pub(crate) fn write_checked<W: Write>(
     name: &str,
-    audited: &Audited,
+    found: &OnDisk,
     output: &mut W,
 ) -> Result<(), AnswerFault>
-    ensures { OnOk result (Appends (W.contents output.old) (W.contents output.new) (checked_text name.now audited.now.copy audited.now.untrue.items)) }
+    ensures { OnOk result (Appends (W.contents output.old) (W.contents output.new) (checked_text name.now found.now.audited.copy found.now.audited.untrue.items (seen_left_out found.now.audited.left_out) found.now.any_uuid)) }
 {
     let checked = Checked {
         name: Source(name),
-        copy: &audited.copy,
-        untrue: &audited.untrue,
+        copy: &found.audited.copy,
+        untrue: &found.audited.untrue,
+        left_out: &found.audited.left_out,
+        any_uuid: found.any_uuid,
     };
     if write!(output, "{checked}").is_err() || output.flush().is_err() {
         return Err(AnswerFault::Write);

@@ -2,14 +2,16 @@
 ghost use Rattle.std.specs.Prelude.{◌≡◌, Some};
 ghost use Rattle.std.specs.Fmt.{DisplaysOnOk};
 ghost use Rattle.std.specs.List.{flat_map};
-ghost use Rattle.svn_answers.specs.Lines.{or_zero, span_text, true_line, untrue_line, checked_text};
+ghost use Rattle.svn_wcdb.specs.Sparse.{seen_left_out};
+ghost use Rattle.svn_answers.specs.Lines.{or_zero, span_text, true_line, untrue_line, uuid_text, checked_text};
 
-use crate::revisions::{Span, span_of};
+use crate::left_out::LeftOutText;
+use crate::revisions::{Span, or_zero, span_of};
 use crate::source::Source;
 use std::fmt;
 use svn_audit::Untrue;
-use svn_types::Rev;
 use svn_wc::WorkingCopy;
+use svn_wcdb::LeftOut;
 
 /// What `check` prints of a working copy.
 #[derive(Clone, Copy)]
@@ -20,16 +22,10 @@ pub struct Checked<'a> {
     pub copy: &'a WorkingCopy,
     /// Its untrue paths.
     pub untrue: &'a [Untrue],
-}
-
-// The number of a revision; 0 where no node has any.
-fn or_zero(rev: Option<Rev>) -> u64
-    ensures { result ≡ or_zero rev }
-{
-    match rev {
-        Some(rev) => rev.0,
-        None => 0,
-    }
+    /// What it leaves out.
+    pub left_out: &'a LeftOut,
+    /// Whether its repository may be another by its UUID.
+    pub any_uuid: bool,
 }
 
 impl fmt::Display for Span {
@@ -45,16 +41,23 @@ impl fmt::Display for Span {
     }
 }
 
-// The line of a true copy.
-fn write_true<W: fmt::Write>(
-    name: Source<'_>,
-    copy: &WorkingCopy,
-    f: &mut fmt::Formatter<W>,
-) -> fmt::Result
-    ensures { DisplaysOnOk W.write_str_gives f.old result (Some (true_line name.entry.0.now copy.now)) f.new }
+fn uuid_text(any_uuid: bool) -> &'static str
+    ensures { result.now ≡ uuid_text any_uuid }
 {
-    let (count, span) = (copy.nodes().len(), span_of(copy));
-    writeln!(f, "{name}: true: {count} nodes, {span}")
+    if any_uuid { ", whatever its UUID" } else { "" }
+}
+
+// The line of a true copy.
+fn write_true<W: fmt::Write>(checked: &Checked<'_>, f: &mut fmt::Formatter<W>) -> fmt::Result
+    ensures { DisplaysOnOk W.write_str_gives f.old result (Some (true_line checked.now.name.0.now checked.now.copy.now (seen_left_out checked.now.left_out.now) checked.now.any_uuid)) f.new }
+{
+    let (name, count, span) = (
+        checked.name,
+        checked.copy.nodes().len(),
+        span_of(checked.copy),
+    );
+    let (left_out, uuid) = (LeftOutText(checked.left_out), uuid_text(checked.any_uuid));
+    writeln!(f, "{name}: true: {count} nodes, {span}{left_out}{uuid}")
 }
 
 // The lines of untrue paths.
@@ -71,14 +74,15 @@ fn write_untrue<W: fmt::Write>(
     Ok(())
 }
 
-/// A true copy is printed as the line `wc: true: 7 nodes, r2 to r3`, or `r3` alone where all nodes have that revision; an untrue one as a line for each
-/// untrue path, `wc: untrue: a: r3 has nothing at a`.
+/// A true copy is printed as the line `wc: true: 7 nodes, r2 to r3`, or `r3` alone where all nodes have that revision, with what it leaves out at the end
+/// (`, 4 directories sparse, 1 entry withheld`), and `, whatever its UUID` where that was passed over; an untrue one as a line for each untrue path,
+/// `wc: untrue: a: r3 has nothing at a`.
 impl fmt::Display for Checked<'_> {
-    ghost output = { λ c. Some (checked_text c.name.0.now c.copy.now c.untrue.now) };
+    ghost output = { λ c. Some (checked_text c.name.0.now c.copy.now c.untrue.now (seen_left_out c.left_out.now) c.any_uuid) };
 
     fn fmt<W: fmt::Write>(&self, f: &mut fmt::Formatter<W>) -> fmt::Result {
         match self.untrue {
-            [] => write_true(self.name, self.copy, f),
+            [] => write_true(self, f),
             untrue => write_untrue(self.name, untrue, f),
         }
     }

@@ -23,6 +23,8 @@ pub enum CopyFault<F> {
     Refused(F),
     /// It isn't audited.
     Audit(AuditFault<ExaminerFault<F>>),
+    /// It has nodes of revisions before this one, with which the dump begins: the history doesn't tell of them.
+    Early(u64),
 }
 
 impl<F: fmt::Display> fmt::Display for CopyFault<F> {
@@ -32,6 +34,10 @@ impl<F: fmt::Display> fmt::Display for CopyFault<F> {
         match self {
             CopyFault::Refused(fault) => fault.fmt(f),
             CopyFault::Audit(fault) => fault.fmt(f),
+            CopyFault::Early(first) => write!(
+                f,
+                "the dump begins with r{first}, and the copy has nodes of revisions before"
+            ),
         }
     }
 }

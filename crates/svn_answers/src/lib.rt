@@ -2,7 +2,7 @@
 //!
 //! ```
 //! let loaded = Loaded::load(alloc, input, Limits::default(), Texts::Sha1, &mut NoLoadListener)?;
-//! let asked = Asked { alloc, history: loaded.history(Texts::Sha1), copies: &copies };
+//! let asked = Asked { alloc, history: loaded.history(Texts::Sha1, false), copies: &copies };
 //! let mut errors = WrittenNotices::new(&copies, error_writer);
 //! let verdict = asked.check_written(&["trunk", "branch"], &mut output, &mut errors)?;
 //! return ExitCode::from(verdict.status());
@@ -19,9 +19,10 @@
 //! Promises: [`Loaded::load`] gives the history of the dump's bytes and what its front says (`IsLoaded`), or the first fault of these bytes
 //! (`IsDumpRefusal`). [`Asked::check`] answers each word, in their order (`answers`): what it writes are exactly the lines of the copies that were
 //! audited (`specs/Lines.antt`), each by the verdict of `svn_disk_audit` on the bytes that were opened, and what it returns is the worst of all
-//! verdicts. A copy that is refused has no line, and the others have theirs. A verdict, and a fault of the bytes, is reported only of a copy that
-//! stayed as it was while it was read. [`Live::check`] answers so by a server, on one connection (`LiveChecks` of `specs/LiveAnswers.antt`): of each
-//! history that gives the answers that came on it, the untrue paths are all untrue nodes. [`Asked::answer`] writes exactly the report, the calls, the
+//! verdicts. Sparse copies are checked too, and the line of a true one says what it leaves out; the other questions are answered of whole copies alone.
+//! A copy that is refused has no line, and the others have theirs. A verdict, and a fault of the bytes, is reported only of a copy that stayed as it was
+//! while it was read. [`Live::check`] answers so by a server, on one connection (`LiveChecks` of `specs/LiveAnswers.antt`): of each history that gives
+//! the answers that came on it, the untrue paths are all untrue nodes. [`Asked::answer`] writes exactly the report, the calls, the
 //! sorted lines, or the nodes that the calls leave, which of a true copy are those of the target revision (`specs/Topics.antt`); or nothing, and
 //! reports why (`IsTellFault`). Exactly the notices of these answers are heard, in the order of the words (`specs/Notices.antt`). [`write_shown`] writes
 //! what a revision has at a path, node by node (`specs/Shown.antt`), or refuses it as nothing is there. [`Writing`] writes the dump of exactly what
@@ -37,6 +38,7 @@ mod copies;
 mod examination;
 mod fault;
 mod laws;
+mod left_out;
 mod live;
 mod live_copy;
 mod live_url;

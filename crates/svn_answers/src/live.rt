@@ -163,14 +163,20 @@ impl<'a, C: Copies, S: Server + Drop> Live<'a, C, S> {
             copy,
             origin,
             notes,
+            left_out,
         } = read;
         let mut line = self.take_line(&origin)?;
         match line.link.untrue_paths(&copy, listener) {
             Ok(untrue) => {
                 self.line = Some(line);
                 Ok(OnDisk {
-                    audited: Audited { copy, untrue },
+                    audited: Audited {
+                        copy,
+                        untrue,
+                        left_out,
+                    },
                     notes: Some(notes),
+                    any_uuid: false,
                 })
             }
             Err(fault) => Err(LiveAnswerFault::Server(fault)),
@@ -203,7 +209,7 @@ impl<'a, C: Copies, S: Server + Drop> Live<'a, C, S> {
             Ok(read) => {
                 let found = self.audit(read, listener)?;
                 hear_notes(name, found.notes, notices);
-                match write_checked(name, &found.audited, output) {
+                match write_checked(name, &found, output) {
                     Ok(()) => Ok(Verdict::on(&found.audited.untrue)),
                     Err(_) => Err(LiveAnswerFault::Write),
                 }

@@ -7,8 +7,9 @@ use crate::copies::{Copies, Opened};
 use crate::examination::Examination;
 use crate::fault::CopyFault;
 use std::alloc::Global;
-use svn_disk_audit::{DiskCopy, read_copy};
+use svn_disk_audit::{DiskCopy, Reading, read_copy};
 use svn_dump::Texts;
+use svn_wcdb::Takes;
 
 /// Reads the copy that a word names, or the part of one that is in the folder of that name, as a copy of its own whose texts are kept as their MD5
 /// checksums. It must be of the repository of this UUID, where one is given. Refused as the opener refuses it, then where it was changed while it was read,
@@ -36,7 +37,12 @@ pub fn read_live_copy<C: Copies>(
         notes: None,
         examiner,
     };
-    let found = read_copy(alloc, Texts::Md5, &below, &database, &mut examination);
+    let reading = Reading {
+        takes: Takes::Whole,
+        texts: Texts::Md5,
+        below: &below,
+    };
+    let found = read_copy(alloc, reading, &database, &mut examination);
     if let Err(fault) = copies.look_again(name, &database, &examination.examiner) {
         return Err(CopyFault::Refused(fault));
     }

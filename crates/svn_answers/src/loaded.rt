@@ -1,9 +1,11 @@
 //! The history of a dump.
 ghost use Rattle.std.specs.Prelude.{◌≡◌, IfOk, IfErr};
 ghost use Rattle.svn_answers.specs.Answers.{compared};
+ghost use Rattle.svn_answers.specs.Lines.{or_zero};
 ghost use Rattle.svn_answers.specs.Loadings.{IsReady, IsLoaded, IsAtFront, IsRefusalOf, IsFrontRefusal, IsDumpRefusal};
 
 use crate::asked::History;
+use crate::revisions::or_zero;
 use std::alloc::Global;
 use std::fmt;
 use std::io::Read;
@@ -147,9 +149,9 @@ impl Loaded {
         })
     }
 
-    /// What copies are compared with, where texts are kept as they were loaded.
-    pub fn history(&self, texts: Texts) -> History<'_>
-        ensures { compared result ≡ record { history = self.now.repo; texts = texts; uuid = self.now.uuid } }
+    /// What copies are compared with, where texts are kept as they were loaded; whether copies of another UUID are taken is for the caller to say.
+    pub fn history(&self, texts: Texts, any_uuid: bool) -> History<'_>
+        ensures { compared result ≡ record { history = self.now.repo; texts = texts; uuid = self.now.uuid; any_uuid = any_uuid; first = or_zero self.now.first } }
     {
         History {
             repo: &self.repo,
@@ -158,6 +160,8 @@ impl Loaded {
                 Some(uuid) => Some(uuid.as_slice()),
                 None => None,
             },
+            any_uuid,
+            first: or_zero(self.first),
         }
     }
 }

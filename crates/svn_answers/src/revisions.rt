@@ -1,11 +1,21 @@
 //! The revisions of a working copy's nodes.
 ghost use Rattle.std.specs.Prelude.{◌≡◌, min, max};
 ghost use Rattle.svn_model.specs.Nodes.{present_revision};
-ghost use Rattle.svn_answers.specs.Lines.{merged, lowest, highest};
+ghost use Rattle.svn_answers.specs.Lines.{merged, lowest, highest, or_zero};
 
 use svn_model::BaseNode;
 use svn_types::Rev;
 use svn_wc::WorkingCopy;
+
+/// The number of a revision; 0 where there is none.
+pub(crate) fn or_zero(rev: Option<Rev>) -> u64
+    ensures { result ≡ or_zero rev }
+{
+    match rev {
+        Some(rev) => rev.0,
+        None => 0,
+    }
+}
 
 /// The first and the last revision of nodes, where one has any.
 #[derive(Debug, Drop)]

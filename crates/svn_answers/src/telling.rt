@@ -4,6 +4,7 @@ ghost use Rattle.svn_audit.specs.declared.reason.Untrue.{Untrue};
 ghost use Rattle.std.specs.Io.KnownBytes.{Appends};
 ghost use Rattle.svn_answers.specs.declared.fault.TellFault.TheVariants as faults;
 ghost use Rattle.svn_answers.specs.declared.topic.TopicFault.TheVariants.{Write as NotWritten};
+ghost use Rattle.svn_wcdb.specs.declared.depth.Takes.TheVariants as takes;
 ghost use Rattle.svn_answers.specs.Answers.{Answer, IsAnswer, IsTellFault, IsToldOf, Tells, compared, passed_over};
 ghost use Rattle.svn_answers.specs.Notices.{Heard, HearsAll};
 
@@ -17,6 +18,7 @@ use crate::verdict::Verdict;
 use std::io::Write;
 use svn_audit::Untrue;
 use svn_disk_audit::Audited;
+use svn_wcdb::Takes;
 
 /// What is asked of a copy.
 #[derive(Clone, Copy, Debug, PartialEq, Eq)]
@@ -47,15 +49,19 @@ impl<C: Copies> Asked<'_, C> {
         output: &mut W,
         notices: &mut N,
     ) -> Result<(), TellFault<C::Fault>>
-        ensures told { OnOk result ((text : List ℕ) × (found : Answer C.Fault) × IsAnswer (C.opens self.now.copies.now) (C.stayed self.now.copies.now) (compared self.now.history) name.now found × IsToldOf (compared self.now.history) inquiry found text × Appends (W.contents output.old) (W.contents output.new) text × HearsAll N.hears (passed_over name.now found) notices.old notices.new) }
-        ensures fault { IfErr result (λ e. e ≢ faults.Topic NotWritten → (found : Answer C.Fault) × IsAnswer (C.opens self.now.copies.now) (C.stayed self.now.copies.now) (compared self.now.history) name.now found × IsTellFault (compared self.now.history) inquiry found e × Appends (W.contents output.old) (W.contents output.new) [] × HearsAll N.hears (passed_over name.now found) notices.old notices.new) }
+        ensures told { OnOk result ((text : List ℕ) × (found : Answer C.Fault) × IsAnswer takes.Whole (C.opens self.now.copies.now) (C.stayed self.now.copies.now) (compared self.now.history) name.now found × IsToldOf (compared self.now.history) inquiry found text × Appends (W.contents output.old) (W.contents output.new) text × HearsAll N.hears (passed_over name.now found) notices.old notices.new) }
+        ensures fault { IfErr result (λ e. e ≢ faults.Topic NotWritten → (found : Answer C.Fault) × IsAnswer takes.Whole (C.opens self.now.copies.now) (C.stayed self.now.copies.now) (compared self.now.history) name.now found × IsTellFault (compared self.now.history) inquiry found e × Appends (W.contents output.old) (W.contents output.new) [] × HearsAll N.hears (passed_over name.now found) notices.old notices.new) }
     {
-        let OnDisk { audited, notes } = match self.audit_copy(name) {
+        let OnDisk { audited, notes, .. } = match self.audit_copy(Takes::Whole, name) {
             Ok(found) => found,
             Err(fault) => return Err(TellFault::Copy(fault)),
         };
         hear_notes(name, notes, notices);
-        let Audited { mut copy, untrue } = audited;
+        let Audited {
+            mut copy,
+            untrue,
+            ..
+        } = audited;
         refuse_untrue(inquiry.allow_untrue, untrue)?;
         match write_topic(
             self.alloc,

@@ -4,6 +4,8 @@ pub mod Reasons
 pub mod PlaceReasons
 -- All untrue nodes of a copy, found one after the other.
 pub mod Audits
+-- A node of a sparse copy has no reason exactly where it is true but for what may be lacking.
+pub mod SparseTruths
 -- What a copy of the nodes below a path has.
 pub mod Belows
 -- What one more call makes of the lines of an update, and of what is held of its tokens.

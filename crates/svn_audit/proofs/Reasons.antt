@@ -50,7 +50,8 @@ no_first : (cs : List PropChange) → option_map (λ c. c.0) (slice_get cs 0) �
 no_first [] e = refl
 no_first (c ∷ cs) e = absurd (true≢false (ap is_some e))
 
-same_unchanged : (a b : Properties) → InNameOrder a → InNameOrder b → first_changed a b ≡ None → a ≡ b
+-- what has no change is the same
+pub same_unchanged : (a b : Properties) → InNameOrder a → InNameOrder b → first_changed a b ≡ None → a ≡ b
 same_unchanged a b h k e = sym (ap (with_changes a) (no_first (changes_between a b) e)) ∙ with_changes-between a b h k
 
 equal : (a b : Properties) → props_eq a b ≡ true → a ≡ b

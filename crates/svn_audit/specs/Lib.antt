@@ -4,4 +4,5 @@ pub mod NotedLines
 pub mod Places
 pub mod Printing
 pub mod Reasons
+pub mod Sparse
 pub mod Untrue

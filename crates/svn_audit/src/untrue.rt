@@ -5,7 +5,7 @@ ghost use Rattle.svn_types.specs.Pairs.{InNameOrder};
 ghost use Rattle.svn_repo.specs.History.{node_at};
 ghost use Rattle.svn_repo.specs.Readings.{kind_of, text_of, props_of, entries_of, is_directory};
 ghost use Rattle.svn_model.specs.Nodes.{get_in, node_revision, node_path, node_props, IsTrueOf};
-ghost use Rattle.svn_audit.specs.Untrue.{first_changed, first_lacking, file_reason, whole_reason, dir_reason, missing_reason, node_reason, untrue_at, untrue_in};
+ghost use Rattle.svn_audit.specs.Untrue.{first_changed, first_lacking, file_reason, whole_reason, dir_reason, missing_reason, node_reason, untrue_by, untrue_at, untrue_in};
 
 use crate::reason::{Reason, Untrue};
 use law_copy::truth_is_tested;
@@ -58,7 +58,7 @@ fn first_lacking(
 }
 
 // The revision of a node, and its path in the repository; of one that is not present revision 0 and the root.
-fn location_of(alloc: Global, node: &BaseNode) -> Result<(Rev, RelPath), AllocError>
+pub(crate) fn location_of(alloc: Global, node: &BaseNode) -> Result<(Rev, RelPath), AllocError>
     ensures { IfOk result (λ at. at ≡ (node_revision (Some node.now), node_path (Some node.now))) }
 {
     match node {
@@ -77,7 +77,7 @@ fn location_of(alloc: Global, node: &BaseNode) -> Result<(Rev, RelPath), AllocEr
 }
 
 // Its properties are in order.
-fn is_ordered(node: &BaseNode)
+pub(crate) fn is_ordered(node: &BaseNode)
     ensures { InNameOrder (node_props (Some node.now)) }
 {
     if let Some(props) = node.props() {
@@ -87,10 +87,28 @@ fn is_ordered(node: &BaseNode)
 
 /// A copy beside the repository that it is compared with.
 #[derive(Clone, Copy)]
-struct Audit<'a> {
+pub(crate) struct Audit<'a> {
+    pub(crate) alloc: Global,
+    pub(crate) repo: &'a Repo,
+    pub(crate) copy: &'a WorkingCopy,
+}
+
+/// A node that isn't true for a reason.
+pub(crate) fn untrue_by(
     alloc: Global,
-    repo: &'a Repo,
-    copy: &'a WorkingCopy,
+    path: &RelPath,
+    node: &BaseNode,
+    reason: Reason,
+) -> Result<Untrue, AllocError>
+    ensures { IfOk result (λ untrue. untrue ≡ untrue_by path.now node.now reason) }
+{
+    let (rev, repos_path) = location_of(alloc, node)?;
+    Ok(Untrue {
+        path: path.clone()?,
+        rev,
+        repos_path,
+        reason,
+    })
 }
 
 impl Audit<'_> {
@@ -199,7 +217,11 @@ impl Audit<'_> {
     }
 
     // Why a node isn't what the repository has in its place.
-    fn node_reason(&self, path: &RelPath, node: &BaseNode) -> Result<Option<Reason>, AllocError>
+    pub(crate) fn node_reason(
+        &self,
+        path: &RelPath,
+        node: &BaseNode,
+    ) -> Result<Option<Reason>, AllocError>
         ensures { IfOk result (λ reason. reason ≡ node_reason self.now.repo.now (get_in self.now.copy.now) path.now node.now) }
     {
         // what a look-up finds is a node of the repository
@@ -230,16 +252,10 @@ impl Audit<'_> {
     fn untrue_at(&self, path: &RelPath, node: &BaseNode) -> Result<Option<Untrue>, AllocError>
         ensures { IfOk result (λ untrue. untrue ≡ untrue_at self.now.repo.now (get_in self.now.copy.now) path.now node.now) }
     {
-        let Some(reason) = self.node_reason(path, node)? else {
-            return Ok(None);
-        };
-        let (rev, repos_path) = location_of(self.alloc, node)?;
-        Ok(Some(Untrue {
-            path: path.clone()?,
-            rev,
-            repos_path,
-            reason,
-        }))
+        match self.node_reason(path, node)? {
+            Some(reason) => Ok(Some(untrue_by(self.alloc, path, node, reason)?)),
+            None => Ok(None),
+        }
     }
 }
 

@@ -1,11 +1,14 @@
 -- The base tree of a working copy.
 --     base_tree_of bytes      the base tree that the bytes of a database stand for, or the first fault
 --     base_tree_at folder bytes      the same of what is at a folder and below, as a tree of its own
+--     base_tree_in takes folder bytes      the same where sparse copies are taken too
 use Rattle.std.specs.Prelude.{◌≡◌, ℕ, ◌+◌, min, Bool, not, ◌&&◌, List, [], ◌∷◌, ◌++◌, length, filter, nat_eq, bytes_eq, Option, Some, None, true, false, Result, Ok, Err, if◌then◌else◌}
 use Rattle.svn_model.specs.declared.base_node.BaseNode.{BaseNode}
 use Rattle.svn_types.specs.Names.{Path}
 use Rattle.svn_wcdb.specs.declared.base_tree.BaseTree.{BaseTree}
 use Rattle.svn_wcdb.specs.declared.base_tree.Origin.{Origin}
+use Rattle.svn_wcdb.specs.declared.depth.Takes.{Takes}
+use Rattle.svn_wcdb.specs.declared.depth.Takes.TheVariants.{Whole, Sparse}
 use Rattle.svn_wcdb.specs.declared.fault.Reason.{Reason}
 use Rattle.svn_wcdb.specs.declared.fault.Reason.TheVariants.{NotOneRoot, NoRoot, NoRepository, OtherRepository, BadColumn, WrongParent}
 use Rattle.svn_wcdb.specs.declared.fault.TableName.{TableName}
@@ -23,6 +26,7 @@ use Rattle.svn_wcdb.specs.Paths.{path_of, text_from, place_in, is_parent, is_in}
 use Rattle.svn_wcdb.specs.Pristines.{Sizes, pristines_of}
 use Rattle.svn_wcdb.specs.Reading.{◌>>=◌, Place, at, given, each}
 use Rattle.svn_wcdb.specs.Schema.{table_of}
+use Rattle.svn_wcdb.specs.Sparse.{as_whole}
 use Rattle.svn_wcdb.specs.Tables.{table_rows}
 
 -- where it comes from, the texts that files may have, the nodes in the order of their rows, and what was passed over; paths are from the folder on
@@ -137,6 +141,22 @@ unfoldable pub placed_after : References → TableRow → Found → Result Found
 placed_after to row found =
     if is_in to.folder (path_at row.bytes) then at (place_in to.folder (path_at row.bytes)) (record_after to row found) else Ok found
 
+-- the same of a row of a sparse copy, taken as one of a whole copy
+unfoldable pub sparse_record_after : References → TableRow → Found → Result Found Reason
+sparse_record_after to row found = row_of row.bytes >>= λ columns. node_after to (as_whole columns) found
+
+unfoldable pub sparse_placed_after : References → TableRow → Found → Result Found Place
+sparse_placed_after to row found =
+    if is_in to.folder (path_at row.bytes) then at (place_in to.folder (path_at row.bytes)) (sparse_record_after to row found) else Ok found
+
+abbrev pub record_in : Takes → References → TableRow → Found → Result Found Reason
+record_in Whole = record_after
+record_in Sparse = sparse_record_after
+
+abbrev pub placed_in : Takes → References → TableRow → Found → Result Found Place
+placed_in Whole = placed_after
+placed_in Sparse = sparse_placed_after
+
 -- a row of a local change adds no node
 abbrev pub LocalRowsChangeNothing : Type 0
 LocalRowsChangeNothing =
@@ -165,8 +185,8 @@ notes_of file schema to found = do
   Ok (record (found.1) { actual = actual; locks = locks; work = work; locked = locked })
 
 -- a fault outside the rows of NODES is at no path
-unfoldable pub tree_at : List ℕ → File → Result Base Place
-tree_at folder file = do
+unfoldable pub tree_in : Takes → List ℕ → File → Result Base Place
+tree_in takes folder file = do
   schema ← at None (table_rows file 1)
   roots ← at None (table_of file schema tables.Wcroot)
   wc_id ← at None (one_root roots)
@@ -177,12 +197,15 @@ tree_at folder file = do
   texts ← at None (table_of file schema tables.Pristine)
   pristines ← at None (pristines_of texts)
   to ← Ok (record { wc_id = wc_id; repos_id = repos_id; folder = folder; pristines = pristines })
-  found ← each (placed_after to) rows none_yet
+  found ← each (placed_in takes to) rows none_yet
   notes ← at None (notes_of file schema to found)
   Ok (record { origin = origin; pristines = pristines; nodes = found.0; notes = notes })
 
-unfoldable pub base_tree_at : Path → List ℕ → Result Base Place
-base_tree_at folder bytes = at None (image_of bytes) >>= tree_at (path_text folder)
+unfoldable pub base_tree_in : Takes → Path → List ℕ → Result Base Place
+base_tree_in takes folder bytes = at None (image_of bytes) >>= tree_in takes (path_text folder)
+
+abbrev pub base_tree_at : Path → List ℕ → Result Base Place
+base_tree_at = base_tree_in Whole
 
 abbrev pub base_tree_of : List ℕ → Result Base Place
 base_tree_of = base_tree_at []

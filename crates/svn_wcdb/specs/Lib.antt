@@ -12,4 +12,5 @@ pub mod Records
 pub mod Trees
 pub mod Tables
 pub mod Schema
+pub mod Sparse
 pub mod Bases

@@ -1,10 +1,13 @@
 //! The base tree of a working copy: where it comes from, and its nodes.
-ghost use Rattle.std.specs.Prelude.{◌≡◌};
-ghost use Rattle.svn_wcdb.specs.Bases.{seen_base, base_tree_of, base_tree_at};
-ghost use Rattle.svn_wcdb.specs.Reading.{Finds};
+ghost use Rattle.std.specs.Prelude.{◌≡◌, IfOk, Ok};
+ghost use Rattle.svn_wcdb.specs.Bases.{seen_base, base_tree_of, base_tree_at, base_tree_in};
+ghost use Rattle.svn_wcdb.specs.Reading.{Finds, Gives};
+ghost use Rattle.svn_wcdb.specs.Sparse.{seen_left_out, left_out_by, left_out_in};
 
-use crate::fault::TableName;
+use crate::depth::Takes;
+use crate::fault::{TableName, WcdbFault};
 use crate::image::read_image;
+use crate::left_out::{LeftOut, read_left_out};
 use crate::nodes::{References, read_nodes};
 use crate::notes::{Notes, read_notes};
 use crate::origin::{one_root, origin_in, repos_in};
@@ -12,6 +15,7 @@ use crate::paths::folder_text;
 use crate::pristines::{Pristines, read_pristines};
 use crate::refusal::Refusal;
 use crate::schema::rows_of;
+use crate::table::TableRow;
 use crate::tree::read_table;
 use std::alloc::Global;
 use svn_model::BaseNode;
@@ -62,9 +66,49 @@ pub fn read_base_tree(alloc: Global, bytes: &[u8]) -> Result<BaseTree, Refusal>
 /// but its path is read, and notes are of what is there, but for unfinished work, which has no path. Of the copy itself it reads the one root, the
 /// root's repository, and which pristine texts there are; these are refused as [`read_base_tree`] refuses them. Where the copy has nothing at the
 /// folder, there is no node.
-#[tactic(auto, unfolding(crate::specs::Bases::base_tree_at, crate::specs::Bases::tree_at))]
 pub fn read_base_tree_at(alloc: Global, folder: &RelPath, bytes: &[u8]) -> Result<BaseTree, Refusal>
     ensures { Finds seen_base result (base_tree_at folder.now bytes.now) }
+{
+    let read = read_tree(alloc, Takes::Whole, folder, bytes)?;
+    Ok(read.tree)
+}
+
+/// A base tree, and what its copy leaves out.
+#[derive(Debug, Drop)]
+pub struct ReadTree {
+    /// The tree.
+    pub tree: BaseTree,
+    /// What is left out; nothing of a whole copy.
+    pub left_out: LeftOut,
+}
+
+// What the rows of NODES leave out, where sparse copies are taken.
+fn left_out_of(
+    alloc: Global,
+    takes: Takes,
+    folder: &[u8],
+    rows: &[TableRow],
+) -> Result<LeftOut, WcdbFault>
+    ensures { Gives seen_left_out result (Ok (left_out_by takes folder.now rows.now)) }
+{
+    match takes {
+        Takes::Whole => Ok(LeftOut::nothing(alloc)),
+        Takes::Sparse => read_left_out(alloc, folder, rows),
+    }
+}
+
+/// Reads a base tree as [`read_base_tree_at`] does, and with [`Takes::Sparse`] that of a sparse copy too: a directory of depth `empty`, `files` or
+/// `immediates` is one as others, and an entry that the user excluded or the server withholds is not present. What is left out is returned beside it.
+/// Then Excluded and ServerExcluded don't come, and Depth only for another depth.
+#[tactic(auto, unfolding(crate::specs::Bases::base_tree_in, crate::specs::Bases::tree_in))]
+pub fn read_tree(
+    alloc: Global,
+    takes: Takes,
+    folder: &RelPath,
+    bytes: &[u8],
+) -> Result<ReadTree, Refusal>
+    ensures tree { Finds (λ r. seen_base r.tree) result (base_tree_in takes folder.now bytes.now) }
+    ensures left_out { IfOk result (λ r. seen_left_out r.left_out ≡ left_out_in takes folder.now bytes.now) }
 {
     let folder = folder_text(alloc, folder)?;
     let folder = folder.as_bytes();
@@ -83,13 +127,18 @@ pub fn read_base_tree_at(alloc: Global, folder: &RelPath, bytes: &[u8]) -> Resul
         repos_id,
         folder,
         pristines: &pristines,
+        takes,
     };
     let found = read_nodes(alloc, &to, &rows)?;
     let notes = read_notes(alloc, &image, &schema, &to, &found)?;
-    Ok(BaseTree {
-        origin,
-        pristines,
-        nodes: found.nodes,
-        notes,
+    let left_out = left_out_of(alloc, takes, folder, &rows)?;
+    Ok(ReadTree {
+        tree: BaseTree {
+            origin,
+            pristines,
+            nodes: found.nodes,
+            notes,
+        },
+        left_out,
     })
 }

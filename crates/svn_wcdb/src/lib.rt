@@ -9,7 +9,7 @@
 //!
 //! `from_nodes` (of `svn_wc`) refuses what no single row shows: a path that comes twice, a node without a directory above it. The text of a file is its
 //! stand-in (`svn_digits`), `$sha1$` and 40 digits; [`pristine_path`] says where the text itself is. [`read_base_tree_at`] reads what is at a folder and
-//! below as a tree of its own, whatever else the copy has.
+//! below as a tree of its own, whatever else the copy has. [`read_tree`] reads sparse copies too.
 //!
 //! | Files, lowest first | What they do | Definitions in `specs/` |
 //! |---|---|---|
@@ -20,6 +20,7 @@
 //! | `columns`, `schema` | the first columns of a row, from one pass over its record; the rows of a table by its name | `Columns`, `Schema` |
 //! | `pristine`, `pristines` | where a pristine text is; the rows of PRISTINE | `Pristines` |
 //! | `row`, `paths`, `place`, `node` | a row of NODES as a base node; whether it is in a folder, and the path at which it is refused | `Nodes`, `Paths` |
+//! | `depth`, `left_out` | rows of sparse copies as those of whole ones; what such a copy leaves out | `Sparse` |
 //! | `locks` | which nodes are locked in the repository | `Locks` |
 //! | `notes`, `origin`, `nodes`, `base_tree` | what is passed over; the root and the repository; the nodes; the whole | `Bases` |
 //! | `laws` | laws about these definitions | |
@@ -32,6 +33,9 @@
 //! | `incomplete` | `dir` | `infinity` or NULL | a directory, not complete |
 //! | `normal` | `file` | any | a file |
 //! | `not-present` | any | any | not present |
+//!
+//! In a sparse copy ([`Takes::Sparse`]) the depths `empty`, `files` and `immediates` are as none, and the presences `excluded` and `server-excluded` as
+//! `not-present`; they are counted.
 //!
 //! A base node's row must name the path above it as its parent, by which Subversion finds it, and the root's none. Properties are read as bytes, also
 //! where the column has a text, as Subversion does.
@@ -49,15 +53,18 @@
 //! [`read_image`] and [`read_table`] read any table by its root page, for what writes a database and reads it back.
 //!
 //! Promises: a tree is returned only if it is what the bytes stand for, and else the refusal is the first fault, with the path of its row
-//! (`read_base_tree`, by `base_tree_of`; of a folder `read_base_tree_at`, by `base_tree_at`). Only a failed allocation may come anywhere. That the tests
+//! (`read_base_tree`, by `base_tree_of`; of a folder `read_base_tree_at`, by `base_tree_at`; of sparse copies `read_tree`, by `base_tree_in`, and what is
+//! left out by `left_out_in`). Only a failed allocation may come anywhere. That the tests
 //! of pages and records are the kit's definitions of them: [`pages_are_well_formed`], [`records_are_whole`].
 #![tactic(auto)]
 
 mod base_tree;
 mod columns;
+mod depth;
 mod fault;
 mod image;
 mod laws;
+mod left_out;
 mod locks;
 mod node;
 mod nodes;
@@ -77,10 +84,12 @@ mod skel;
 mod table;
 mod tree;
 
-pub use base_tree::{BaseTree, Origin, read_base_tree, read_base_tree_at};
+pub use base_tree::{BaseTree, Origin, ReadTree, read_base_tree, read_base_tree_at, read_tree};
+pub use depth::{Depth, Takes};
 pub use fault::{Reason, TableName, WcdbFault};
 pub use image::read_image;
 pub use laws::{local_rows_change_nothing, pages_are_well_formed, records_are_whole};
+pub use left_out::LeftOut;
 pub use notes::Notes;
 pub use pages::Image;
 pub use pristine::pristine_path;

@@ -13,7 +13,8 @@ use std::collections::BTreeSet;
 use svn_model::BaseNode;
 use svn_types::RelPath;
 
-fn path_in(alloc: Global, text: Option<&[u8]>) -> Result<Option<RelPath>, WcdbFault>
+/// The path that a column has, if it is one.
+pub(crate) fn path_in(alloc: Global, text: Option<&[u8]>) -> Result<Option<RelPath>, WcdbFault>
     ensures { Gives (λ path. path) result (Ok (path_in (option_copied text.entry))) }
 {
     let Some(text) = text else {

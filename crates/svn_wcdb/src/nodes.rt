@@ -1,10 +1,11 @@
 //! The base nodes of a working copy, from the rows of NODES.
 ghost use Rattle.std.specs.Prelude.{◌≡◌};
-ghost use Rattle.svn_wcdb.specs.Bases.{seen_references, seen_found, none_yet, path_from, one_node, node_after, record_after, placed_after};
+ghost use Rattle.svn_wcdb.specs.Bases.{seen_references, seen_found, none_yet, path_from, one_node, node_after, record_in, placed_in};
 ghost use Rattle.svn_wcdb.specs.Nodes.{seen};
 ghost use Rattle.svn_wcdb.specs.Reading.{Gives, Finds, each};
 
 use crate::columns::{is_number, path_at};
+use crate::depth::{Takes, as_whole};
 use crate::fault::{Reason, TableName, WcdbFault};
 use crate::node::base_node;
 use crate::notes::Notes;
@@ -29,6 +30,8 @@ pub(crate) struct References<'a> {
     pub(crate) folder: &'a [u8],
     /// The texts that its files may have.
     pub(crate) pristines: &'a Pristines,
+    /// Which copies are taken.
+    pub(crate) takes: Takes,
 }
 
 /// The nodes so far, and what was passed over.
@@ -88,28 +91,32 @@ fn take_row(alloc: Global, to: &References, row: &Row, found: &mut Found) -> Res
     push_node(alloc, to, row, found)
 }
 
-#[tactic(auto, unfolding(crate::specs::Bases::record_after))]
+// In a sparse copy it is taken as one of a whole copy.
+#[tactic(auto, unfolding(crate::specs::Bases::record_after, crate::specs::Bases::sparse_record_after))]
 fn take_record(
     alloc: Global,
     to: &References,
     table_row: &TableRow,
     found: &mut Found,
 ) -> Result<(), WcdbFault>
-    ensures { Gives (λ _. seen_found found.new) result (record_after (seen_references to.now) table_row.now (seen_found found.old)) }
+    ensures { Gives (λ _. seen_found found.new) result (record_in to.now.takes (seen_references to.now) table_row.now (seen_found found.old)) }
 {
     let row = Row::read(table_row.bytes.as_slice())?;
-    take_row(alloc, to, &row, found)
+    match to.takes {
+        Takes::Whole => take_row(alloc, to, &row, found),
+        Takes::Sparse => take_row(alloc, to, &as_whole(&row), found),
+    }
 }
 
 // The same of a row that may be outside of the folder, with its path from there, if it is refused.
-#[tactic(auto, unfolding(crate::specs::Bases::placed_after))]
+#[tactic(auto, unfolding(crate::specs::Bases::placed_after, crate::specs::Bases::sparse_placed_after))]
 fn take_placed(
     alloc: Global,
     to: &References,
     row: &TableRow,
     found: &mut Found,
 ) -> Result<(), Refusal>
-    ensures { Finds (λ _. seen_found found.new) result (placed_after (seen_references to.now) row.now (seen_found found.old)) }
+    ensures { Finds (λ _. seen_found found.new) result (placed_in to.now.takes (seen_references to.now) row.now (seen_found found.old)) }
 {
     let bytes = row.bytes.as_slice();
     if !is_in(to.folder, bytes) {
@@ -131,7 +138,7 @@ pub(crate) fn read_nodes(
     to: &References,
     rows: &[TableRow],
 ) -> Result<Found, Refusal>
-    ensures { Finds seen_found result (each (placed_after (seen_references to.now)) rows.now none_yet) }
+    ensures { Finds seen_found result (each (placed_in to.now.takes (seen_references to.now)) rows.now none_yet) }
 {
     let mut found = Found {
         nodes: Vec::new(alloc),

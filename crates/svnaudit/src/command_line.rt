@@ -1,7 +1,8 @@
 //! The arguments of the command line.
 
-use clap::{Arg, ArgAction, ArgMatches, Command, Error, value_parser};
+use clap::{Arg, ArgAction, ArgMatches, Command, Error};
 use std::alloc::{AllocError, Global};
+use std::num::ParseIntError;
 use svn_answers::{Inquiry, Source, Topic};
 use svn_dump::Texts;
 use svn_types::Rev;
@@ -25,8 +26,8 @@ const WAYS: &[&str] = &["sha1", "md5", "whole"];
 pub(crate) struct Show<'a> {
     /// The dump.
     pub(crate) dump: Source<'a>,
-    /// The revision.
-    pub(crate) rev: Rev,
+    /// The revision, if it isn't the last.
+    pub(crate) rev: Option<Rev>,
     /// The path in the repository, as it was given.
     pub(crate) path: &'a str,
     /// How texts are kept.
@@ -61,11 +62,22 @@ pub(crate) struct Live<'a> {
     pub(crate) progress: bool,
 }
 
+/// `check DUMP WC..`: whether each of these is true of the history.
+#[derive(Debug, Drop)]
+pub(crate) struct Check<'a> {
+    /// The folders of the copies.
+    pub(crate) copies: Vec<&'a str>,
+    /// Whether their files are compared with their pristine texts too.
+    pub(crate) files: bool,
+    /// Whether copies of another UUID than the dump's are taken too.
+    pub(crate) any_uuid: bool,
+}
+
 /// What is asked about working copies.
 #[derive(Debug, Drop)]
 pub(crate) enum Subject<'a> {
-    /// `check DUMP WC..`: whether each of these is true of the history.
-    Check(Vec<&'a str>),
+    /// Whether they are true.
+    Check(Check<'a>),
     /// `report`, `update`, `calls` and `nodes DUMP WC`: something about this one.
     Copy(Inquiry, &'a str),
 }
@@ -90,6 +102,8 @@ pub(crate) enum Request<'a> {
     Write(Write<'a>),
     Ask(Question<'a>),
     Live(Live<'a>),
+    /// A word for a revision that is none.
+    NoRevision(&'a str),
 }
 
 impl<'a> Request<'a> {
@@ -100,6 +114,7 @@ impl<'a> Request<'a> {
             Request::Write(write) => write.script,
             Request::Ask(question) => question.dump,
             Request::Live(live) => live.from,
+            Request::NoRevision(word) => Source(word),
         }
     }
 }
@@ -128,11 +143,13 @@ fn show_command<'a>(alloc: Global) -> Result<Command<'a>, AllocError> {
     Command::new(alloc, "show")
         .about("Print the tree of a revision, at a path")
         .arg(word(alloc, "dump", "DUMP", "The dump, or - for standard input").required(true))?
-        .arg(
-            word(alloc, "rev", "REV", "The number of the revision")
-                .required(true)
-                .value_parser(value_parser!(u64)),
-        )?
+        .arg(word(
+            alloc,
+            "rev",
+            "REV",
+            "The revision: a number, r and a number, or HEAD",
+        )
+        .required(true))?
         .arg(word(alloc, "path", "PATH", "A path of the repository").default_value(""))?
         .arg(texts_option(alloc))?
         .arg(progress_option(alloc))
@@ -174,6 +191,18 @@ fn check_command<'a>(alloc: Global) -> Result<Command<'a>, AllocError> {
         word(alloc, "copies", "WC", "A folder of a working copy")
             .required(true)
             .num_args(1..),
+    )?
+    .arg(
+        Arg::new(alloc, "files")
+            .long("files")
+            .action(ArgAction::SetTrue)
+            .help("Compare the files with their pristine texts, too"),
+    )?
+    .arg(
+        Arg::new(alloc, "any-uuid")
+            .long("any-uuid")
+            .action(ArgAction::SetTrue)
+            .help("Take copies of another UUID than the dump's, as those of a mirror"),
     )
 }
 
@@ -234,9 +263,8 @@ fn update_command<'a>(
         alloc,
         "rev",
         "REV",
-        "The number of the revision, by default the last",
-    )
-    .value_parser(value_parser!(u64)))
+        "The revision: a number, r and a number, or HEAD, by default the last",
+    ))
 }
 
 fn command<'a>(alloc: Global) -> Result<Command<'a>, AllocError> {
@@ -279,10 +307,19 @@ fn texts_of(matches: &ArgMatches<'_>) -> Texts {
     }
 }
 
-fn show_of<'a>(matches: &ArgMatches<'a>) -> Show<'a> {
+// The revision that a word names, where it isn't the last.
+fn rev_of(word: &str) -> Result<Option<Rev>, ParseIntError> {
+    if word == "HEAD" {
+        return Ok(None);
+    }
+    let number = word.strip_prefix("r").unwrap_or(word);
+    Ok(Some(Rev(number.parse::<u64>()?)))
+}
+
+fn show_of<'a>(rev: Option<Rev>, matches: &ArgMatches<'a>) -> Show<'a> {
     Show {
         dump: Source(matches.get_str("dump").unwrap_or("-")),
-        rev: Rev(matches.get_one::<u64>("rev").unwrap_or(0)),
+        rev,
         path: matches.get_str("path").unwrap_or(""),
         texts: texts_of(matches),
         progress: matches.get_flag("progress"),
@@ -325,13 +362,12 @@ fn live_of<'a>(alloc: Global, matches: &ArgMatches<'a>) -> Result<Live<'a>, Allo
 }
 
 // What is asked of one copy, by the name of its command.
-fn topic_of(name: &str, matches: &ArgMatches<'_>) -> Option<Topic> {
-    let rev = || matches.get_one::<u64>("rev").map(|number| Rev(number));
+fn topic_of(name: &str, rev: Option<Rev>) -> Option<Topic> {
     match name {
         "report" => Some(Topic::Report),
-        "update" => Some(Topic::Update(rev())),
-        "calls" => Some(Topic::Calls(rev())),
-        "nodes" => Some(Topic::Nodes(rev())),
+        "update" => Some(Topic::Update(rev)),
+        "calls" => Some(Topic::Calls(rev)),
+        "nodes" => Some(Topic::Nodes(rev)),
         _ => None,
     }
 }
@@ -348,12 +384,17 @@ fn inquiry_of<'a>(topic: Topic, matches: &ArgMatches<'a>) -> Subject<'a> {
 fn subject_of<'a>(
     alloc: Global,
     name: &str,
+    rev: Option<Rev>,
     matches: &ArgMatches<'a>,
 ) -> Result<Option<Subject<'a>>, AllocError> {
     if name == "check" {
-        return Ok(Some(Subject::Check(copies_of(alloc, matches)?)));
+        return Ok(Some(Subject::Check(Check {
+            copies: copies_of(alloc, matches)?,
+            files: matches.get_flag("files"),
+            any_uuid: matches.get_flag("any-uuid"),
+        })));
     }
-    Ok(topic_of(name, matches).map(|topic| inquiry_of(topic, matches)))
+    Ok(topic_of(name, rev).map(|topic| inquiry_of(topic, matches)))
 }
 
 fn question_of<'a>(subject: Subject<'a>, matches: &ArgMatches<'a>) -> Question<'a> {
@@ -372,12 +413,19 @@ pub(crate) fn request_of<'a>(alloc: Global, words: &'a [&'a str]) -> Result<Requ
         // a subcommand is required
         return Err(Error::from(AllocError));
     };
-    if let Some(subject) = subject_of(alloc, name, words)? {
+    let word = match name {
+        "show" | "update" | "calls" | "nodes" => words.get_str("rev").unwrap_or("HEAD"),
+        _ => "HEAD",
+    };
+    let Ok(rev) = rev_of(word) else {
+        return Ok(Request::NoRevision(word));
+    };
+    if let Some(subject) = subject_of(alloc, name, rev, words)? {
         return Ok(Request::Ask(question_of(subject, words)));
     }
     match name {
         "live" => Ok(Request::Live(live_of(alloc, words)?)),
-        "show" => Ok(Request::Show(show_of(words))),
+        "show" => Ok(Request::Show(show_of(rev, words))),
         _ => Ok(Request::Write(write_of(words))),
     }
 }

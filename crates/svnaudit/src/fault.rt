@@ -25,6 +25,10 @@ pub(crate) enum Fault {
     NoRevision(Rev, Rev),
     /// The revision has nothing at the path.
     NoNode(Rev, RelPath),
+    /// The word for a revision is none.
+    BadRevision,
+    /// What should be a dump is a folder, of this name.
+    Folder(String),
     /// The path that was asked for isn't lawful.
     BadPath(PathFault),
     /// The line of this number, counted from 1, is no command.
@@ -102,6 +106,13 @@ impl fmt::Display for Fault {
                 let path = PathWord(path);
                 write!(f, "r{}: nothing is at {path}", rev.0)
             }
+            Fault::BadRevision => {
+                f.write_str("no revision: it is a number, r and a number, or HEAD")
+            }
+            Fault::Folder(name) => write!(
+                f,
+                "this is a folder: of a repository `svnadmin dump -q {name}` writes the dump"
+            ),
             Fault::BadPath(fault) => write!(f, "bad path: {fault}"),
             Fault::BadLine(line) => write!(f, "line {line}: bad line"),
             Fault::LongLine(line) => write!(f, "line {line}: line too long"),

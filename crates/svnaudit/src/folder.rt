@@ -84,6 +84,16 @@ impl Folder {
         Database::of(alloc, &self.root)
     }
 
+    /// A file at a path of the folder that was named.
+    pub(crate) fn working_file(&self, alloc: Global, path: &str) -> Result<PathBuf, Fault> {
+        if self.below.is_root() {
+            return self.file(alloc, path);
+        }
+        let below = &self.below;
+        let name = format!(in alloc; "{below}/{path}")?;
+        self.file(alloc, &name)
+    }
+
     /// A file of the working copy's own.
     pub(crate) fn file(&self, alloc: Global, name: &str) -> Result<PathBuf, Fault> {
         Ok(self.root.join(alloc, name)?)

@@ -4,8 +4,10 @@ use crate::command_line::{Question, Show};
 use crate::fault::Fault;
 use crate::progress::Progress;
 use std::alloc::Global;
+use std::fs;
+use std::fs::File;
 use std::io::Read;
-use std::rt::Clock;
+use std::rt::{Clock, Files};
 use svn_answers::{DumpRefusal, Loaded};
 use svn_dump::{DumpFault, Limits, Reader, Reason, Texts};
 use svn_history::{LoadFault, LoadListener, Loader};
@@ -65,12 +67,23 @@ fn load_up_to<T: Clock + Eprint, R: Read + Drop>(
 }
 
 // What was loaded, if it has the revision.
-fn loaded<R: Read + Drop>(loader: Loader<R>, rev: Rev) -> Result<Repo, Fault> {
+fn loaded<R: Read + Drop>(loader: Loader<R>, rev: Option<Rev>) -> Result<Repo, Fault> {
     let last = loader.latest();
-    if last < rev {
-        return Err(Fault::NoRevision(rev, last));
+    match rev {
+        Some(rev) if last < rev => Err(Fault::NoRevision(rev, last)),
+        _ => Ok(loader.into_repo()),
     }
-    Ok(loader.into_repo())
+}
+
+/// A dump's file, which must be no folder.
+pub(crate) fn open_dump<T: Files + AllocGlobal>(rt: &T, name: &str) -> Result<T::File, Fault> {
+    match fs::metadata(rt, name) {
+        Ok(found) if found.is_dir() => Err(Fault::Folder(name.to_string(rt.alloc())?)),
+        _ => match File::open(rt, name) {
+            Ok(file) => Ok(file),
+            Err(error) => Err(Fault::Unread(error)),
+        },
+    }
 }
 
 fn open<R: Read + Drop>(alloc: Global, input: R, texts: Texts) -> Result<Loader<R>, Fault> {
@@ -86,7 +99,7 @@ fn open<R: Read + Drop>(alloc: Global, input: R, texts: Texts) -> Result<Loader<
     }
 }
 
-/// The history of a dump, at least up to the revision to show, which it has; what comes after that isn't read.
+/// The history of a dump, at least up to the revision to show, which it has; what comes after that isn't read. Without one all is read.
 pub(crate) fn load<T: Clock + Eprint, R: Read + Drop>(
     alloc: Global,
     input: R,
@@ -94,7 +107,8 @@ pub(crate) fn load<T: Clock + Eprint, R: Read + Drop>(
     progress: &mut Progress<'_, T>,
 ) -> Result<Repo, Fault> {
     let mut loader = open(alloc, input, show.texts)?;
-    if load_up_to(&mut loader, show.rev, progress).is_err() {
+    let last = show.rev.unwrap_or(Rev(u64::MAX));
+    if load_up_to(&mut loader, last, progress).is_err() {
         return Err(fault_of(alloc, &DumpRefusal::of(alloc, &loader), show.texts));
     }
     progress.end();

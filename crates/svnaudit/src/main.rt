@@ -7,6 +7,7 @@ mod command_line;
 mod database;
 mod dump_front;
 mod fault;
+mod files;
 mod folder;
 mod lines;
 mod live;
@@ -53,6 +54,7 @@ fn answer<T: Files + Input + Print + Eprint + Clock + AllocGlobal>(
         Request::Write(write) => write_script(rt, write).map(|()| Verdict::True),
         Request::Ask(question) => ask(rt, question),
         Request::Live(live) => ask_server(rt, live),
+        Request::NoRevision(_) => Err(Fault::BadRevision),
     };
     match done {
         Ok(verdict) => ExitCode::from(verdict.status()),

@@ -6,8 +6,10 @@ use crate::fault::Fault;
 use crate::folder::Folder;
 use crate::pristine::{PristineFile, open_pristine};
 use std::rt::Files;
-use svn_answers::{Copies, Opened};
+use svn_answers::{Copies, Opened, Source};
 use svn_disk_audit::Examiner;
+use svn_editor::PathWord;
+use svn_model::BaseNode;
 use svn_types::{RelPath, Text};
 use svn_wcdb::BaseTree;
 
@@ -21,16 +23,39 @@ pub(crate) struct Folders<'a, T> {
 #[derive(Drop)]
 pub(crate) struct OpenFolder<'a, T> {
     rt: &'a T,
+    name: String,
     folder: Folder,
     database: Database,
 }
 
-impl<T: Files + AllocGlobal> Examiner for OpenFolder<'_, T> {
+fn has_externals(node: &BaseNode) -> bool {
+    match node {
+        BaseNode::Dir { props, .. } => props
+            .iter()
+            .any(|(name, _)| name.as_str() == "svn:externals"),
+        BaseNode::File { .. } | BaseNode::NotPresent => false,
+    }
+}
+
+// Says which directories have externals. Where this can't be written, the answer alone tells.
+fn tell_externals<T: Eprint>(rt: &T, name: &str, tree: &BaseTree) {
+    for (path, node) in &tree.nodes {
+        if has_externals(node) {
+            let (name, path) = (Source(name), PathWord(path));
+            let _ = eprintln!(rt;
+                "svnaudit: {name}: {path} has svn:externals, and each folder that they bring is a working copy of its own"
+            );
+        }
+    }
+}
+
+impl<T: Files + Eprint + AllocGlobal> Examiner for OpenFolder<'_, T> {
     type Fault = Fault;
 
     type Text = PristineFile<T::File>;
 
-    fn examine(&mut self, _tree: &BaseTree) -> Result<(), Fault> {
+    fn examine(&mut self, tree: &BaseTree) -> Result<(), Fault> {
+        tell_externals(self.rt, &self.name, tree);
         Ok(())
     }
 
@@ -39,7 +64,7 @@ impl<T: Files + AllocGlobal> Examiner for OpenFolder<'_, T> {
     }
 }
 
-impl<'a, T: Files + AllocGlobal> Copies for Folders<'a, T> {
+impl<'a, T: Files + Eprint + AllocGlobal> Copies for Folders<'a, T> {
     type Fault = Fault;
 
     type Examiner = OpenFolder<'a, T>;
@@ -58,6 +83,7 @@ impl<'a, T: Files + AllocGlobal> Copies for Folders<'a, T> {
             below: folder.below().clone()?,
             examiner: OpenFolder {
                 rt: self.rt,
+                name: name.to_string(self.rt.alloc())?,
                 folder,
                 database,
             },

@@ -70,7 +70,7 @@ impl<'a, T: Clock + Eprint> Progress<'a, T> {
         if let Some(Rev(number)) = first {
             if number > 1 {
                 let _ = eprintln!(self.rt;
-                    "svnaudit: {name}: the dump begins with r{number}: the revisions before it are empty here"
+                    "svnaudit: {name}: the dump begins with r{number}: the revisions before it are empty here, and properties of the root may be missing"
                 );
             }
         }

@@ -1,19 +1,87 @@
 //! Questions about working copies.
 
-use crate::command_line::{Question, Subject};
+use crate::command_line::{Check, Question, Subject};
 use crate::dump_front::DumpFront;
 use crate::fault::Fault;
-use crate::load::load_whole;
+use crate::files::check_files;
+use crate::load::{load_whole, open_dump};
 use crate::on_disk::Folders;
 use crate::output::{error_writer, output_writer};
 use crate::progress::Progress;
-use std::fs::File;
 use std::io::{Read, Write};
 use std::rt::{Clock, Files};
-use svn_answers::{AnswerFault, Asked, History, Verdict, WrittenNotices};
+use svn_answers::{AnswerFault, Asked, History, Source, Verdict, WrittenNotices};
+
+// Says what mends an untrue copy. Where this can't be written, the verdict alone tells.
+fn tell_mending<T: Eprint>(rt: &T, checked: Verdict) {
+    if checked == Verdict::Untrue {
+        let _ = eprintln!(rt;
+            "svnaudit: `svn update --set-depth exclude PATH`, and then `--set-depth infinity PATH`, mend an untrue PATH below the root"
+        );
+    }
+}
+
+// Compares the files of a copy, unless it was refused.
+fn compare_files<T: Files + Eprint + AllocGlobal, W: Write>(
+    rt: &T,
+    name: &str,
+    checked: Verdict,
+    output: &mut W,
+) -> Result<Verdict, Fault> {
+    if checked == Verdict::Refused {
+        return Ok(checked);
+    }
+    match check_files(rt, name, output) {
+        Ok(verdict) => Ok(checked.worse(verdict)),
+        Err(Fault::Write) => Err(Fault::Write),
+        Err(Fault::Memory) => Err(Fault::Memory),
+        Err(fault) => {
+            // where this can't be written, the status alone tells
+            let name = Source(name);
+            let _ = eprintln!(rt; "svnaudit: {name}: {fault}");
+            Ok(Verdict::Refused)
+        }
+    }
+}
+
+// Checks copies.
+fn check_copies<'a, T: Files + Eprint + AllocGlobal, W: Write, E: Write>(
+    rt: &'a T,
+    asked: &Asked<'_, Folders<'a, T>>,
+    copies: &[&str],
+    output: &mut W,
+    errors: &mut WrittenNotices<'_, Folders<'a, T>, E>,
+) -> Result<Verdict, Fault> {
+    match asked.check_written(copies, output, errors) {
+        Ok(verdict) => {
+            tell_mending(rt, verdict);
+            Ok(verdict)
+        }
+        Err(AnswerFault::Write) => Err(Fault::Write),
+    }
+}
+
+// Checks copies, each with its files if that was asked for.
+fn check_with<'a, T: Files + Print + Eprint + AllocGlobal, W: Write, E: Write>(
+    rt: &'a T,
+    asked: &Asked<'_, Folders<'a, T>>,
+    check: &Check<'_>,
+    output: &mut W,
+    errors: &mut WrittenNotices<'_, Folders<'a, T>, E>,
+) -> Result<Verdict, Fault> {
+    if !check.files {
+        return check_copies(rt, asked, &check.copies, output, errors);
+    }
+    let mut verdict = Verdict::True;
+    for name in &check.copies {
+        let checked = check_copies(rt, asked, &[*name], output, errors)?;
+        verdict = verdict.worse(compare_files(rt, name, checked, output)?);
+    }
+    Ok(verdict)
+}
 
 // Answers what is asked, on both streams.
-fn answer_with<'a, T: Files + Print + AllocGlobal, E: Write>(
+fn answer_with<'a, T: Files + Print + Eprint + AllocGlobal, E: Write>(
     rt: &'a T,
     history: History<'_>,
     subject: &Subject<'_>,
@@ -25,13 +93,14 @@ fn answer_with<'a, T: Files + Print + AllocGlobal, E: Write>(
         copies: &Folders { rt },
     };
     let mut output = output_writer(rt)?;
-    let answered = match subject {
-        Subject::Check(names) => asked.check_written(names, &mut output, errors),
-        Subject::Copy(inquiry, name) => asked.answer_written(*inquiry, name, &mut output, errors),
-    };
-    match answered {
-        Ok(verdict) => Ok(verdict),
-        Err(AnswerFault::Write) => Err(Fault::Write),
+    match subject {
+        Subject::Check(check) => check_with(rt, &asked, check, &mut output, errors),
+        Subject::Copy(inquiry, name) => {
+            match asked.answer_written(*inquiry, name, &mut output, errors) {
+                Ok(verdict) => Ok(verdict),
+                Err(AnswerFault::Write) => Err(Fault::Write),
+            }
+        }
     }
 }
 
@@ -55,7 +124,12 @@ fn ask_of<T: Files + Input + Print + Eprint + Clock + AllocGlobal, R: Read + Dro
     front.refuse_packed()?;
     let dump = front.bytes().chain(input);
     let loaded = load_whole(rt.alloc(), dump, question, &mut progress)?;
-    answer_copies(rt, loaded.history(question.texts), &question.subject)
+    let any_uuid = match &question.subject {
+        Subject::Check(check) => check.any_uuid,
+        Subject::Copy(..) => false,
+    };
+    let history = loaded.history(question.texts, any_uuid);
+    answer_copies(rt, history, &question.subject)
 }
 
 /// Answers a question about working copies.
@@ -66,8 +140,5 @@ pub(crate) fn ask<T: Files + Input + Print + Eprint + Clock + AllocGlobal>(
     if question.dump.is_standard() {
         return ask_of(rt, rt.reader(), question);
     }
-    match File::open(rt, question.dump.0) {
-        Ok(file) => ask_of(rt, file, question),
-        Err(error) => Err(Fault::Unread(error)),
-    }
+    ask_of(rt, open_dump(rt, question.dump.0)?, question)
 }

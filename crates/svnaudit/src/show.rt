@@ -3,11 +3,10 @@
 use crate::command_line::Show;
 use crate::dump_front::DumpFront;
 use crate::fault::Fault;
-use crate::load::load;
+use crate::load::{load, open_dump};
 use crate::output::output_writer;
 use crate::progress::Progress;
 use std::alloc::Global;
-use std::fs::File;
 use std::io::Read;
 use std::rt::{Clock, Files};
 use svn_answers::{ShowFault, write_shown};
@@ -52,7 +51,8 @@ fn show_history<T: Print + Eprint + Clock + AllocGlobal, R: Read + Drop>(
     let front = DumpFront::read(rt.alloc(), &mut input)?;
     front.refuse_packed()?;
     let repo = load(rt.alloc(), front.bytes().chain(input), show, &mut progress)?;
-    print_node(rt, &repo, show.rev, path)
+    let rev = show.rev.unwrap_or(repo.latest());
+    print_node(rt, &repo, rev, path)
 }
 
 /// Prints the tree at a path of a revision, as a fresh checkout of it.
@@ -63,8 +63,5 @@ pub(crate) fn show_dump<T: Files + Input + Print + Eprint + Clock + AllocGlobal>
     if show.dump.is_standard() {
         return show_history(rt, rt.reader(), show);
     }
-    match File::open(rt, show.dump.0) {
-        Ok(file) => show_history(rt, file, show),
-        Err(error) => Err(Fault::Unread(error)),
-    }
+    show_history(rt, open_dump(rt, show.dump.0)?, show)
 }

@@ -7,6 +7,7 @@ mod answers;
 mod by_hand;
 mod files;
 mod one_text;
+mod sparse;
 
 use crate::names::names_of;
 use answers::check_copies;
@@ -14,6 +15,7 @@ use anyhow::{Result, bail};
 use by_hand::{Row, calls_of, copy_of_rows, rows};
 use files::{copy_in, history_of};
 use one_text::audit_with_texts;
+use sparse::check_sparse;
 use std::alloc::Global;
 use std::fmt::Display;
 use std::fs;
@@ -141,5 +143,6 @@ pub(crate) fn run<R: Files + AllocGlobal + Print + Clone + Drop>(rt: &R) -> Resu
         compare_row(rt, &copy, row)?;
     }
     audit_with_texts(rt)?;
-    check_copies(rt)
+    check_copies(rt)?;
+    check_sparse(rt)
 }

@@ -6,7 +6,7 @@ use anyhow::{Result, ensure};
 use std::alloc::Global;
 use std::rt::Files;
 use std::{fmt, fs};
-use svn_answers::{Asked, Copies, History, Opened, WrittenNotices};
+use svn_answers::{Asked, Copies, History, Inquiry, Opened, Topic, WrittenNotices};
 use svn_disk_audit::Examiner;
 use svn_dump::Texts;
 use svn_types::{RelPath, Text};
@@ -23,19 +23,20 @@ const ROWS: [(&str, Option<&[u8]>, &[&str]); 4] = [
     ),
 ];
 
-// Copies of the one file `f`. The database of the one that changes was cut off while it was read.
+/// Copies with one text, `f`. The database of the one that changes was cut off while it was read.
 #[derive(Clone, Copy)]
-struct InMemory<'a> {
-    alloc: Global,
-    database: &'a [u8],
+pub(super) struct InMemory<'a> {
+    pub(super) alloc: Global,
+    pub(super) database: &'a [u8],
 }
 
-// The text of the file.
+/// The text of the files.
 #[derive(Clone, Copy)]
-struct OneText(&'static [u8]);
+pub(super) struct OneText(&'static [u8]);
 
+/// Why a copy isn't opened.
 #[derive(Clone, Copy)]
-struct Refused(&'static str);
+pub(super) struct Refused(&'static str);
 
 impl fmt::Display for Refused {
     ghost output = { λ r. Some r.0.now };
@@ -110,8 +111,8 @@ fn print_text<R: Print>(rt: &R, bytes: &[u8]) -> Result<()> {
     Ok(())
 }
 
-// What is answered of copies: the status, the lines, and the notices.
-fn answers_of<C: Copies>(
+/// What is answered of copies: the status, the lines, and the notices.
+pub(super) fn answers_of<C: Copies>(
     alloc: Global,
     history: History<'_>,
     copies: &C,
@@ -129,6 +130,28 @@ fn answers_of<C: Copies>(
     Ok((verdict.status(), lines, notices.output))
 }
 
+/// The line of the refusal, where the report of a copy is asked for, and it is refused.
+pub(super) fn refusal_of<'a, C: Copies>(
+    alloc: Global,
+    history: History<'a>,
+    copies: &'a C,
+    name: &str,
+) -> Result<Vec<u8>> {
+    let asked = Asked {
+        alloc,
+        history,
+        copies,
+    };
+    let inquiry = Inquiry {
+        topic: Topic::Report,
+        allow_untrue: true,
+    };
+    let mut lines = Vec::new(alloc);
+    let mut notices = WrittenNotices::new(copies, Vec::new(alloc));
+    asked.answer_written(inquiry, name, &mut lines, &mut notices)?;
+    Ok(notices.output)
+}
+
 /// Checks copies, and prints the answers.
 pub(crate) fn check_copies<R: Files + AllocGlobal + Print>(rt: &R) -> Result<()> {
     let alloc = rt.alloc();
@@ -144,6 +167,8 @@ pub(crate) fn check_copies<R: Files + AllocGlobal + Print>(rt: &R) -> Result<()>
             repo: &repo,
             texts,
             uuid: *uuid,
+            any_uuid: false,
+            first: 0,
         };
         let (status, lines, notices) = answers_of(alloc, history, &copies, names)?;
         println!(rt; "check of {row}: status {status}")?;

@@ -7,11 +7,11 @@ use anyhow::{Result, bail};
 use std::alloc::Global;
 use std::fs;
 use std::rt::Files;
-use svn_disk_audit::{AuditFault, Audited, Examiner, Question, audit};
+use svn_disk_audit::{AuditFault, Audited, Examiner, Question, Reading, audit};
 use svn_dump::Texts;
 use svn_repo::Repo;
 use svn_types::{RelPath, Text};
-use svn_wcdb::BaseTree;
+use svn_wcdb::{BaseTree, Takes};
 
 const ROWS: [(&str, Option<&[u8]>); 4] = [
     ("its text", Some(b"f\n")),
@@ -68,7 +68,7 @@ fn told(alloc: Global, audited: &Audited) -> Result<String> {
 
 fn audit_with(
     alloc: Global,
-    question: Question<'_>,
+    question: Question<'_, '_>,
     database: &[u8],
     mut store: OneText,
 ) -> Result<String> {
@@ -85,10 +85,14 @@ fn audit_rows<R: Files + AllocGlobal + Print>(rt: &R, texts: Texts, how: &str) -
     let repo = history_of(rt, "copies/wrong_revision.dump", texts)?;
     let database = fs::read(rt, "copies/wrong_revision.db")?;
     let below = RelPath::root(alloc);
-    let question = Question {
-        repo: &repo,
+    let reading = Reading {
+        takes: Takes::Whole,
         texts,
         below: &below,
+    };
+    let question = Question {
+        repo: &repo,
+        reading,
     };
     for (name, text) in &ROWS {
         let told = audit_with(alloc, question, &database, OneText { text: *text })?;

@@ -10,5 +10,7 @@ returns-in-Ok-clause-asked g c = record {
   same = refl;
   copy = refl;
   notes = refl;
+  left_out = refl;
+  uuid = refl;
   audit = c.in-Ok.ensures;
 }
