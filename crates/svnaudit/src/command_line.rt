@@ -6,6 +6,7 @@ use std::num::ParseIntError;
 use svn_answers::{Inquiry, Source, Topic};
 use svn_dump::Texts;
 use svn_types::Rev;
+use svn_version::VERSION;
 
 const ABOUT: &str =
     "Compares working copies with the history of a repository, which is given as a dump of Subversion.";
@@ -269,6 +270,7 @@ fn update_command<'a>(
 
 fn command<'a>(alloc: Global) -> Result<Command<'a>, AllocError> {
     Command::new(alloc, "svnaudit")
+        .version(VERSION)
         .about(ABOUT)
         .after_help(AFTER)
         .subcommand_required(true)

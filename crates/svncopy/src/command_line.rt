@@ -3,6 +3,7 @@
 use clap::{Arg, ArgAction, ArgMatches, Command, Error};
 use std::alloc::{AllocError, Global};
 use svn_types::Rev;
+use svn_version::VERSION;
 
 const ABOUT: &str =
     "Makes working copies of Subversion from a dump of a repository, updates them, and puts them right.";
@@ -245,6 +246,7 @@ fn switch_command<'a>(alloc: Global) -> Result<Command<'a>, AllocError> {
 
 fn command<'a>(alloc: Global) -> Result<Command<'a>, AllocError> {
     Command::new(alloc, "svncopy")
+        .version(VERSION)
         .about(ABOUT)
         .after_help(AFTER)
         .subcommand_required(true)

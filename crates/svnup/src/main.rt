@@ -17,6 +17,7 @@ use svn_update::{
     History, Invocation, Repo, ScriptFault, Settings, WordsFault, read_invocation, run_script,
     run_script_on,
 };
+use svn_version::VERSION;
 
 // How many bytes are written at a time: as many as a pipe takes.
 const WRITTEN_AT_ONCE: usize = 1 << 16;
@@ -113,10 +114,28 @@ fn answer<T: Files + Input + Print + Eprint + AllocGlobal + Threads + Wait + Syn
     }
 }
 
+// Whether the version is asked for, and nothing else.
+fn is_version_asked(words: &[String]) -> bool {
+    match words {
+        [_, word] => word.as_str() == "--version",
+        _ => false,
+    }
+}
+
+fn print_version<T: Print + Eprint>(rt: &T) -> ExitCode {
+    match println!(rt; "svnup {VERSION}") {
+        Ok(()) => ExitCode::SUCCESS,
+        Err(_) => refuse_script(rt, ScriptFault::Write),
+    }
+}
+
 fn answer_words<T: Files + Input + Print + Eprint + AllocGlobal + Threads + Wait + Sync>(
     rt: &T,
     words: &[String],
 ) -> ExitCode {
+    if is_version_asked(words) {
+        return print_version(rt);
+    }
     let texts = match texts_of(rt.alloc(), words) {
         Ok(texts) => texts,
         Err(fault) => return refuse_words(rt, &fault),
