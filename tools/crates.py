@@ -1,4 +1,4 @@
-"""The crates of this repository, by crates.txt, and how they are proved: what tools/gate, tools/prove and tools/vendor share."""
+"""The crates of this repository, by crates.txt, how they are proved, and the version: what the scripts of tools/ share."""
 import os
 import re
 import shutil
@@ -15,6 +15,12 @@ def read_lines():
         lines = [line for line in file if ":" in line and not line.startswith("#")]
     rows = [(line.split(":")[0].split()[0], line) for line in lines]
     return {name: (line, line.split(":", 1)[1].split()) for name, line in rows}
+
+
+def version():
+    """The number that the programs print."""
+    with open(f"{TOP}/crates/svn_version/src/lib.rt", encoding="utf-8") as file:
+        return re.search(r'(?m)^pub const VERSION: &str = "(.*)";$', file.read())[1]
 
 
 def with_below(lines, names):

@@ -12,7 +12,12 @@
 - Crates: each of crates.txt is on docs/DESIGN.md. The tables of docs/DEFINITIONS*.md are as `tools/definitions --page`
   writes them.
 - Examples: each is the same in examples/ and in crates/example_library/data, whose program sees no other folder. The blocks of docs/TUTORIAL.md,
-  one after the other, are examples/tutorial.script and its output.
+  one after the other, are examples/tutorial.script and its output. A block of docs/EMBEDDING.md that begins with a file's name has lines of that file
+  of crates/example_library, in their order; where the page says that it is the whole file, all of them.
+- Promises: each function in a row of docs/PROVED*.md is in the files that the row names, and so is each clause in parentheses, unless it is a definition.
+- Reasons: those of untrue paths on docs/AUDIT.md are those of crates/svn_audit/specs/Reasons.antt, to which contracts bind what is printed; each line
+  of an untrue path, on any page, has one of them.
+- The version: the first numbered entry of CHANGELOG.md is that of crates/svn_version/src/lib.rt.
 """
 import argparse
 import filecmp
@@ -167,6 +172,100 @@ def look_at_examples():
             yield "docs/TUTORIAL.md", 1, f"its blocks together aren't examples/tutorial.{kind}"
 
 
+def stripped(text):
+    """The lines of code without their indentation, blank ones left out."""
+    return [line.strip() for line in text.split("\n") if line.strip()]
+
+
+def look_at_code():
+    page, inner = "docs/EMBEDDING.md", "crates/example_library/src"
+    for found in re.finditer(r"(?ms)^```rust (\S+)( whole)?\n(.*?)^```", read(page)):
+        name, is_whole, block = found.groups()
+        n = read(page)[:found.start()].count("\n") + 1
+        if not os.path.exists(os.path.join(TOP, inner, name)):
+            yield page, n, f"there is no {inner}/{name}"
+            continue
+        lines, left = stripped(block), iter(stripped(read(f"{inner}/{name}")))
+        lacking = [it for it in lines if it not in left]  # (each look goes on after the line that was found)
+        if lacking:
+            yield page, n, f"{inner}/{name} has no line `{lacking[0]}` there"
+        elif is_whole and lines != stripped(read(f"{inner}/{name}")):
+            yield page, n, f"isn't all of {inner}/{name}"
+
+
+def pattern_of(term):
+    """What a text of a definition may be: its literal parts, and some word for each other part."""
+    parts = [] if term == "[]" else term.split(" ++ ")
+    return "".join(re.escape(it[7:-1]) if it.startswith('codes "') else r"\S+" for it in parts)
+
+
+def reasons():
+    """A pattern for each reason of an untrue path."""
+    definition = read("crates/svn_audit/specs/Reasons.antt")
+    no_revision = re.search(r'codes "(the history has no r)"', definition)[1]
+    yield re.escape(no_revision) + r"\d+"
+    rests = dict(re.findall(r"(?m)^rest_of (\w+|\(.*?\)) = (.*)$", definition))
+    for reason, there in re.findall(r"(?m)^in_place (\w+|\(.*?\)) = (.*)$", definition):
+        if reason != "NoRevision":
+            yield rf"r\d+ has {pattern_of(there)} at \S+{pattern_of(rests.get(reason, '[]'))}"
+
+
+def look_at_reasons(pages):
+    patterns, page = [*reasons()], "docs/AUDIT.md"
+    table = re.search(r"(?ms)^Reason \| Meaning\n---\|---\n(.*?)\n\n", read(page))
+    listed = [it for row in table[1].split("\n") for it in re.findall(r"`([^`]+)`", row.split(" | ")[0])]
+    for it in listed:
+        if not any(re.fullmatch(pattern, it) for pattern in patterns):
+            yield page, 1, f"no reason is printed as `{it}`"
+    for pattern in patterns:
+        if not any(re.fullmatch(pattern, it) for it in listed):
+            yield page, 1, f"its table lacks the reason {pattern}"
+    for page in pages:
+        for n, line in enumerate(read(page).split("\n"), 1):
+            for reason in re.findall(r": untrue: \S+: ([^`]*)", line):
+                if not any(re.fullmatch(pattern, reason.strip()) for pattern in patterns):
+                    yield page, n, f"no reason is printed as `{reason}`"
+
+
+def promises(known):
+    """(page, number, contract, code) of each row of docs/PROVED*.md that names files of code."""
+    code = {it: read(it) for it in known if it.startswith("crates/") and it.endswith(".rt")}
+    for page in (it for it in known if re.fullmatch(r"docs/PROVED\w*\.md", it)):
+        for n, line in enumerate(read(page).split("\n"), 1):
+            promise, contract, where = (line.split(" | ") + ["", ""])[:3]
+            named = tuple("/" + it for it in re.findall(r"`([\w/]+\.rt)`", where))
+            text = "".join(code[it] for it in code if named and it.endswith(named))
+            if text:
+                yield page, n, contract, text
+
+
+def clauses_of(contract, defined):
+    """The names in parentheses that aren't definitions, each with whether a definition comes before it, whose field it may be."""
+    for group in re.findall(r"\(([^)]*)\)", contract):
+        names = re.findall(r"`(\w+)`", group)
+        yield from ((it, any(before in defined for before in names[:at])) for at, it in enumerate(names) if it not in defined)
+
+
+def look_at_promises(known):
+    specs = "".join(read(it) for it in known if it.startswith("crates/") and "/specs/" in it and it.endswith(".antt"))
+    defined = {*re.findall(r"(?m)^(?:abbrev |unfoldable )?pub (?:record |data )?(\w+)", specs), *re.findall(r"pub (?:record|data) (\w+)", specs)}
+    fields = set(re.findall(r"(?m)^ +(?:\w+ )*pub (\w+)", specs))
+    for page, n, contract, text in promises(known):
+        for clause, may_be_field in clauses_of(contract, defined):
+            if not (may_be_field and clause in fields) and not re.search(rf"(ensures|ghost) {clause}\b", text):
+                yield page, n, f"no clause {clause} is there"
+        for call in re.findall(r"`(?:\w+::)?(\w+)`", re.sub(r"\([^)]*\)", "", contract)):
+            if not re.search(rf"\b{call}\b", text):
+                yield page, n, f"no {call} is there"
+
+
+def look_at_version():
+    is_, page = re.search(r'(?m)^pub const VERSION: &str = "(.*)";$', read("crates/svn_version/src/lib.rt")), "CHANGELOG.md"
+    first = re.search(r"(?m)^## (\d\S*)", read(page))
+    if not is_ or not first or is_[1] != first[1]:
+        yield page, 1, "its first numbered entry isn't the version of crates/svn_version"
+
+
 def look_at_map():
     page = read("docs/DESIGN.md")
     for n, line in enumerate(read("crates.txt").split("\n"), 1):
@@ -193,7 +292,8 @@ def main(with_comments):
     code = sorted(it for it in known if it.endswith((".rt", ".antt")) and it.startswith("crates"))
     found = [it for page in pages + code if page.endswith((".md", ".rt")) for it in look_at_names(page, known, words)]
     found += [it for page in pages for it in [*look_at_wording(page, text_of(page), {**NEVER, **UNUSUAL, **MARK}), *look_at_length(page)]]
-    found += [*look_at_examples(), *look_at_map(), *look_at_definitions()]
+    found += [*look_at_examples(), *look_at_code(), *look_at_promises(known), *look_at_reasons(pages), *look_at_version()]
+    found += [*look_at_map(), *look_at_definitions()]
     wordings = {**NEVER, **UNUSUAL} if with_comments else NEVER
     found += [it for page in code for it in look_at_wording(page, comments(page), wordings)]
     print("\n".join(f"{page}:{n}: {what}" for page, n, what in sorted({*found})) or f"all is there, in {len(pages)} pages")

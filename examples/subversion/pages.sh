@@ -2,16 +2,17 @@
 # The commands on the pages that are about Subversion's own repositories and working copies, run as they are written: the outputs on the page are compared
 # with what is printed, and where there is none, each command must succeed.
 #
-# It needs Debian's packages `subversion` and `sqlite3`, python3, and `svnaudit` and `svnup` as `tools/prove svnaudit svnup` builds them:
-# crates/svnaudit/out/svnaudit and crates/svnup/out/svnup, or the programs that the variables SVNAUDIT and SVNUP name. It works in a folder of its own,
-# which goes at the end, and is no part of the gate. The last line counts what differs.
+# It needs Debian's packages `subversion` and `sqlite3`, python3, and `svnaudit`, `svncopy` and `svnup` as `tools/prove svnaudit svncopy svnup` builds them
+# (crates/svnaudit/out/svnaudit and so on), or the programs that the variables SVNAUDIT, SVNCOPY and SVNUP name. It works in a folder of its own, which goes
+# at the end, and is no part of the gate. The last line counts what differs.
 . "$(dirname "${BASH_SOURCE[0]}")/room.sh"
 . "$here/dump_history.sh"
 . "$here/false_copies.sh"
 needs sqlite3 python3
-needs_built svnaudit svnup
+needs_built svnaudit svncopy svnup
 mkdir programs
 ln -s "$SVNAUDIT" programs/svnaudit
+ln -s "$SVNCOPY" programs/svncopy
 ln -s "$SVNUP" programs/svnup
 PATH=$room/programs:$PATH
 
@@ -48,10 +49,8 @@ echo "== a script's commits in Subversion, and a repository of Subversion in a s
 mkdir script
 cd script || exit 2
 cp "$top/examples/tutorial.script" my.script
-runs docs/TUTORIAL.md "## Beside Subversion"
-ln -s repo REPO
-ln -s wc WC
-runs README.md "## Check a working copy"
+prints docs/TUTORIAL.md "## 7. A real copy, cut off and completed"
+runs docs/TUTORIAL.md "## A script over a repository of your own"
 cd "$room" || exit 2
 
 echo "== copies that are checked"
@@ -61,6 +60,7 @@ mv restored wc
 svn -q checkout "file://$room/restored.repo" other
 svn -q update -r 2 other/d
 prints docs/AUDIT.md "## check"
+prints README.md "## Check a working copy, and mend it"
 rm repo
 
 echo "== an update, and trees"
@@ -78,9 +78,17 @@ svnadmin create repo
 cp "$top/examples/first_update.script" x.script
 prints docs/AUDIT.md "## write"
 
+echo "== the version"
+version=$(sed -n 's/^pub const VERSION: &str = "\(.*\)";$/\1/p' "$top/crates/svn_version/src/lib.rt")
+for name in svnup svnaudit svncopy; do
+    echo "$name $version" >wanted
+    $name --version >got 2>&1 </dev/null
+    same "the version of $name" wanted got
+done
+
 echo "== the library in another repository"
 mkdir checkout your_repository
-cp -r "$top/tools" "$top/crates.txt" checkout
+cp -r "$top/tools" "$top/crates.txt" "$top/HANDLES" checkout
 ln -s "$top/crates" checkout/crates
 cd checkout || exit 2
 runs docs/EMBEDDING.md "## Adding it to your repository"
