@@ -80,9 +80,7 @@ impl<C: Copies> Asked<'_, C> {
         }
     }
 
-    /// Audits the copy that a word names, or the part of one that is in the folder of that name, as a copy of its own, which may be sparse where such
-    /// copies are taken. Refused as the opener refuses it, then where it was changed while it was read, then as [`audit`] refuses it: so no fault is
-    /// reported of bytes that were read while they changed.
+    // Audits the copy that a word names, whatever the revisions of its nodes are.
     fn audit_opened(&self, takes: Takes, name: &str) -> Result<OnDisk, CopyFault<C::Fault>>
         ensures audited { IfOk result (λ d. IsAudited takes (C.opens self.now.copies.now) (C.stayed self.now.copies.now) (compared self.now.history) name.now d) }
         ensures refused { IfErr result (λ e. IsCopyFault takes (C.opens self.now.copies.now) (C.stayed self.now.copies.now) (compared self.now.history) name.now e) }
@@ -127,7 +125,9 @@ impl<C: Copies> Asked<'_, C> {
         }
     }
 
-    /// The same; and refused, where the copy has nodes of revisions before the first of the dump.
+    /// Audits the copy that a word names, or the part of one that is in the folder of that name, as a copy of its own, which may be sparse where such
+    /// copies are taken. Refused as the opener refuses it, then where it was changed while it was read, then as [`audit`] refuses it: so no fault is
+    /// reported of bytes that were read while they changed. Then Early, where it has nodes of revisions before the first of the dump, or none of any revision.
     pub fn audit_copy(&self, takes: Takes, name: &str) -> Result<OnDisk, CopyFault<C::Fault>>
         ensures audited { IfOk result (λ d. IsAudited takes (C.opens self.now.copies.now) (C.stayed self.now.copies.now) (compared self.now.history) name.now d × (has_early (compared self.now.history).first d.audited.copy ≡ false)) }
         ensures refused { IfErr result (λ e. IsCopyFault takes (C.opens self.now.copies.now) (C.stayed self.now.copies.now) (compared self.now.history) name.now e) }
