@@ -2,6 +2,7 @@
 import os
 import re
 import shutil
+import signal
 import subprocess
 
 TOP = os.path.dirname(os.path.dirname(os.path.abspath(__file__)))
@@ -72,12 +73,18 @@ def run_ci(top):
     """Runs `rt ci` in a copy of the repository, passes on what it prints, and returns how many crates passed and failed."""
     passed, failed = 0, 1
     environment = {"RT_JOBS": str(lanes()), **os.environ}
-    with subprocess.Popen(["rt", "ci"], cwd=top, env=environment, stdout=subprocess.PIPE, stderr=subprocess.STDOUT, text=True, errors="replace") as run:
-        for line in run.stdout:
-            print(line, end="", flush=True)
-            found = re.fullmatch(r"(\d+) passed, (\d+) failed\n", line)
-            if found:
-                passed, failed = int(found[1]), int(found[2])
+    how = {"stdout": subprocess.PIPE, "stderr": subprocess.STDOUT, "text": True, "errors": "replace", "start_new_session": True}
+    with subprocess.Popen(["rt", "ci"], cwd=top, env=environment, **how) as run:
+        try:
+            for line in run.stdout:
+                print(line, end="", flush=True)
+                found = re.fullmatch(r"(\d+) passed, (\d+) failed\n", line)
+                if found:
+                    passed, failed = int(found[1]), int(found[2])
+        except BaseException:
+            # (what was stopped leaves nothing running)
+            os.killpg(run.pid, signal.SIGKILL)
+            raise
     return passed, failed or int(run.returncode != 0)
 
 
