@@ -4,6 +4,7 @@ import re
 import shutil
 import signal
 import subprocess
+import sys
 
 TOP = os.path.dirname(os.path.dirname(os.path.abspath(__file__)))
 # What a check may take, in kB. None was seen to take more; rt counts on nearly twice as much, and would leave processors idle.
@@ -70,11 +71,11 @@ def lanes():
 
 
 def run_ci(top):
-    """Runs `rt ci` in a copy of the repository, passes on what it prints, and returns how many crates passed and failed."""
+    """Runs `rt ci` (by kit.py) in a copy of the repository, passes on what it prints, and returns how many crates passed and failed."""
     passed, failed = 0, 1
     environment = {"RT_JOBS": str(lanes()), **os.environ}
     how = {"stdout": subprocess.PIPE, "stderr": subprocess.STDOUT, "text": True, "errors": "replace", "start_new_session": True}
-    with subprocess.Popen(["rt", "ci"], cwd=top, env=environment, **how) as run:
+    with subprocess.Popen([sys.executable, f"{TOP}/tools/kit.py", "ci"], cwd=top, env=environment, **how) as run:
         try:
             for line in run.stdout:
                 print(line, end="", flush=True)
