@@ -1,8 +1,8 @@
 #!/usr/bin/env python3
-"""Says of a dump what Subversion has of each node's last change, in the lines of crates/test_history; or makes that crate's stdin and stdout anew.
+"""Says of a dump what Subversion has of each node's last change, in the lines of crates/test_recorded; or makes that crate's stdin and the end of its stdout anew.
 
     last_changes.py DUMP           prints the lines of a dump that begins with revision 0
-    last_changes.py --make         makes a small history by svn, and writes stdin and stdout
+    last_changes.py --make         makes a small history by svn, and writes stdin and the end of stdout
 
 The revision of a last change is what `svn ls -R` and `svn info` say of each revision, a date and an author are the revision's properties. The places of
 texts are found in the dump's bytes. It needs Debian's package `subversion` and python3."""
@@ -14,7 +14,9 @@ import sys
 import tempfile
 import xml.etree.ElementTree as ET
 
-CRATE = os.path.join(os.path.dirname(os.path.abspath(__file__)), '..', '..', 'crates', 'test_history')
+CRATE = os.path.join(os.path.dirname(os.path.abspath(__file__)), '..', '..', 'crates', 'test_recorded')
+# With what the lines begin; other tests print what comes before them.
+FIRST = '0 . 0 '
 DAY_ZERO = datetime.datetime(1970, 1, 1, tzinfo=datetime.timezone.utc)
 
 
@@ -152,7 +154,8 @@ def main(words):
             h = small(room)
             dump = h.dump()
             open(f'{CRATE}/stdin', 'wb').write(dump)
-            open(f'{CRATE}/stdout', 'w').writelines(lines_of(h.repo, dump))
+            before = open(f'{CRATE}/stdout').read().partition(f'\n{FIRST}')[0] + '\n'
+            open(f'{CRATE}/stdout', 'w').writelines([before, *lines_of(h.repo, dump)])
         elif len(words) == 1:
             dump = open(words[0], 'rb').read()
             run('svnadmin', 'create', f'{room}/repo')

@@ -1,5 +1,5 @@
 #!/bin/bash
-# What `test_wcrows` prints, as SQLite says it: the numbers of rows of the databases in crates/test_wcrows/data/databases, which the client wrote; and the
+# What `test_recorded` prints of databases, as SQLite says it: the numbers of rows of those in crates/test_recorded/data/databases, which the client wrote; and the
 # database that the program makes, which SQLite reads, checks and counts.
 #
 #   examples/subversion/stored_databases.sh [--make]
@@ -8,12 +8,12 @@
 # whose update was cut off, since its folder takes no new name, so that directories aren't complete and the client's work is left. Each is written with pages of
 # 512 bytes, so that it is small. That takes root's rights, to work as another user.
 #
-# It needs Debian's packages `subversion`, `sqlite3` and `xxd`, and `test_wcrows` as `tools/prove test_wcrows` builds it: crates/test_wcrows/out/test_wcrows, or the
-# program that the variable TEST_WCROWS names. It is no part of the gate. The last line counts what differs.
+# It needs Debian's packages `subversion`, `sqlite3` and `xxd`, and `test_recorded` as `tools/prove test_recorded` builds it: crates/test_recorded/out/test_recorded,
+# or the program that the variable TEST_RECORDED names. It is no part of the gate. The last line counts what differs.
 . "$(dirname "${BASH_SOURCE[0]}")/room.sh"
 needs sqlite3 xxd sha1sum
-needs_built test_wcrows
-crate=$top/crates/test_wcrows
+needs_built test_recorded
+crate=$top/crates/test_recorded
 url=file://$room/repo
 
 # small COPY NAME: the database of a copy, with small pages
@@ -100,11 +100,11 @@ while read -r name; do
         echo "$(sqlite3 "$database" 'select count(*) from nodes where op_depth = 0') base nodes, read again: true"
     } >>got_stdout
 done <"$crate/args"
-grep -v '^made: ' "$crate/stdout" >wanted
+sed '/^made: /,$d' "$crate/stdout" >wanted
 same "the lines about them" wanted got_stdout
 
 echo "== a database that is made"
-"$TEST_WCROWS" hex | xxd -r -p >made.db
+"$TEST_RECORDED" hex | xxd -r -p >made.db
 sound "made" "$PWD/made.db"
 echo "made: $(stat -c %s made.db) bytes \$sha1\$$(sha1sum <made.db | cut -d' ' -f1), the work is read again: true" >got
 grep '^made: ' "$crate/stdout" >wanted

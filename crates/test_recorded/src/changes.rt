@@ -1,13 +1,13 @@
-//! The last change of each node of each revision of a dump, and where each text is in it. The dump is read from standard input. `stdout` is what
-//! Subversion itself has of them, and what is at the places in the dump: `examples/subversion/last_changes.py` makes both files.
+//! The last change of each node of each revision of a dump, and where each text is in it. The dump is read from standard input. The end of `stdout` is
+//! what Subversion itself has of them, and what is at the places in the dump: `examples/subversion/last_changes.py` makes both.
 //!
 //! Of a node it prints its revision and path, the revision of its last change with its date and author, and for a file where its text begins in the
 //! dump, how many bytes it has, and its MD5 checksum.
-#![tactic(auto)]
 
 use anyhow::{Result, bail};
 use hex::FromHex;
 use std::alloc::Global;
+use std::io::Read;
 use std::rt::Files;
 use svn_dump::{DumpIndex, Limits, Reader, Sha1Sum, TextPlace, Texts};
 use svn_editor::Word;
@@ -36,6 +36,20 @@ fn print_change<R: Print>(rt: &R, at: Rev, path: &RelPath, change: &LastChange<'
         None => println!(rt; "{at} {path} {} - {author}", change.rev)?,
     }
     Ok(())
+}
+
+fn print_last_change<R: Print + AllocGlobal>(
+    rt: &R,
+    repo: &Repo,
+    index: &DumpIndex,
+    rev: Rev,
+    path: &RelPath,
+) -> Result<()> {
+    match last_change(rt.alloc(), repo, index, rev, path) {
+        Ok(Some(change)) => print_change(rt, rev, path, &change),
+        Ok(None) => bail!("no last change of a node"),
+        Err(_) => bail!("out of memory"),
+    }
 }
 
 fn print_place<R: Print>(rt: &R, place: Option<TextPlace>) -> Result<()> {
@@ -73,11 +87,7 @@ fn print_node<R: Print + AllocGlobal>(
     let Some(node) = repo.lookup(rev, path) else {
         bail!("no node at an entry")
     };
-    match last_change(rt.alloc(), repo, index, rev, path) {
-        Ok(Some(change)) => print_change(rt, rev, path, &change)?,
-        Ok(None) => bail!("no last change of a node"),
-        Err(_) => bail!("out of memory"),
-    }
+    print_last_change(rt, repo, index, rev, path)?;
     print_place(rt, place_of(repo, index, node))?;
     push_entries(rt.alloc(), repo, node, path, paths)
 }
@@ -99,17 +109,25 @@ fn print_revision<R: Print + AllocGlobal>(
     Ok(())
 }
 
-fn main(rt: HostRuntime) -> Result<()> {
-    let alloc = rt.alloc();
-    let reader = Reader::new(alloc, rt.stdin(), Limits::default(), Texts::Sha1)?;
+fn load<I: Read + Drop>(alloc: Global, input: I) -> Result<(Repo, Option<DumpIndex>)> {
+    let reader = Reader::new(alloc, input, Limits::default(), Texts::Sha1)?;
     let mut loader = Loader::new(alloc, reader.with_index(), Repo::new(alloc)?);
     loader.load_all()?;
-    let (repo, index) = loader.into_parts();
-    let Some(index) = index else {
-        bail!("no index")
-    };
+    Ok(loader.into_parts())
+}
+
+fn print_all<R: Print + AllocGlobal>(rt: &R, repo: &Repo, index: &DumpIndex) -> Result<()> {
     for rev in 0..=repo.latest().0 {
-        print_revision(&rt, &repo, &index, Rev(rev))?;
+        print_revision(rt, repo, index, Rev(rev))?;
     }
     Ok(())
+}
+
+/// Prints the last changes of a dump.
+pub(crate) fn print<R: Print + AllocGlobal, I: Read + Drop>(rt: &R, input: I) -> Result<()> {
+    let (repo, index) = load(rt.alloc(), input)?;
+    match &index {
+        Some(index) => print_all(rt, &repo, index),
+        None => bail!("no index"),
+    }
 }

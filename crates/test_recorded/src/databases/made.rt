@@ -44,6 +44,22 @@ const NODES: [Stated; 6] = [
 
 const TEXTS: [&str; 2] = ["first\n", "link run"];
 
+/// What is left to do at a path.
+#[derive(Clone, Copy)]
+enum Kind {
+    RemoveFile,
+    RemoveDirectory,
+    MakeDirectory,
+    InstallFile,
+}
+
+const WORK: [(Kind, &str); 4] = [
+    (Kind::RemoveFile, "gone/file"),
+    (Kind::RemoveDirectory, "gone"),
+    (Kind::MakeDirectory, "d"),
+    (Kind::InstallFile, "d/run"),
+];
+
 fn path(alloc: Global, text: &str) -> Result<RelPath> {
     if text.is_empty() {
         Ok(RelPath::root(alloc))
@@ -84,61 +100,91 @@ fn node(alloc: Global, stated: &Stated) -> Result<BaseNode> {
     })
 }
 
-// The rows of the nodes, numbered from 1 on.
+/// What each node's row records.
+const RECORDED: Recorded<'static> = Recorded {
+    change: Some(LastChange {
+        rev: Rev(3),
+        date: Some(1_700_000_000_000_000),
+        author: Some(b"jo"),
+    }),
+    size_and_time: None,
+    inherited: None,
+};
+
+// Puts a record in the next row, numbered from 1 on.
+fn push_row(rows: &mut Vec<TableRow>, bytes: Text) -> Result<()> {
+    let rowid = rows.len() as u64 + 1;
+    rows.push(TableRow { rowid, bytes })?;
+    Ok(())
+}
+
+fn nodes(alloc: Global) -> Result<Vec<(RelPath, BaseNode)>> {
+    let mut nodes = Vec::new(alloc);
+    for stated in &NODES {
+        nodes.push((path(alloc, stated.0)?, node(alloc, stated)?))?;
+    }
+    Ok(nodes)
+}
+
+// The rows of the nodes.
 fn push_nodes(
     alloc: Global,
     rows: &mut Vec<TableRow>,
-    nodes: &mut Vec<(RelPath, BaseNode)>,
+    nodes: &[(RelPath, BaseNode)],
 ) -> Result<()> {
-    let recorded = Recorded {
-        change: Some(LastChange {
-            rev: Rev(3),
-            date: Some(1_700_000_000_000_000),
-            author: Some(b"jo"),
-        }),
-        size_and_time: None,
-        inherited: None,
-    };
-    for stated in &NODES {
-        let path = path(alloc, stated.0)?;
-        let node = node(alloc, stated)?;
-        let bytes = node_record(alloc, OWNER, &path, &node, &recorded)?;
-        let rowid = rows.len() as u64 + 1;
-        rows.push(TableRow { rowid, bytes })?;
-        nodes.push((path, node))?;
+    for (path, node) in nodes {
+        push_row(rows, node_record(alloc, OWNER, path, node, &RECORDED)?)?;
     }
     Ok(())
 }
 
+fn text_record(alloc: Global, text: &[u8]) -> Result<Text> {
+    let word = stand_in(alloc, text)?;
+    let md5 = Digest::of(text);
+    let len = text.len() as u64;
+    Ok(pristine_record(alloc, word.as_slice(), len, &md5)?)
+}
+
 fn push_texts(alloc: Global, rows: &mut Vec<TableRow>) -> Result<()> {
-    for text in TEXTS {
-        let word = stand_in(alloc, text.as_bytes())?;
-        let md5 = Digest::of(text.as_bytes());
-        let bytes = pristine_record(alloc, word.as_slice(), text.len() as u64, &md5)?;
-        let rowid = rows.len() as u64 + 1;
-        rows.push(TableRow { rowid, bytes })?;
+    for text in &TEXTS {
+        push_row(rows, text_record(alloc, text.as_bytes())?)?;
     }
     Ok(())
+}
+
+fn work_item(alloc: Global, kind: Kind, text: &str) -> Result<Work> {
+    let path = path(alloc, text)?;
+    Ok(match kind {
+        Kind::RemoveFile => Work::RemoveFile(path),
+        Kind::RemoveDirectory => Work::RemoveDirectory(path),
+        Kind::MakeDirectory => Work::MakeDirectory(path),
+        Kind::InstallFile => Work::InstallFile(path),
+    })
 }
 
 fn work(alloc: Global) -> Result<Vec<Work>> {
     let mut items = Vec::new(alloc);
-    items.push(Work::RemoveFile(path(alloc, "gone/file")?))?;
-    items.push(Work::RemoveDirectory(path(alloc, "gone")?))?;
-    items.push(Work::MakeDirectory(path(alloc, "d")?))?;
-    items.push(Work::InstallFile(path(alloc, "d/run")?))?;
+    for (kind, text) in &WORK {
+        items.push(work_item(alloc, *kind, text)?)?;
+    }
     Ok(items)
+}
+
+// The rows of the tables but those of the nodes.
+fn tables(alloc: Global) -> Result<Tables> {
+    let uuid = b"8c2cd125-01f3-4a01-a4b5-22ec721dff0f";
+    let mut tables = Tables::new(alloc, b"svn://h/repo", uuid)?;
+    push_texts(alloc, &mut tables.pristine)?;
+    tables.work_queue = work_rows(alloc, &work(alloc)?, 4)?;
+    tables.wc_lock.push(lock_row(alloc, OWNER)?)?;
+    Ok(tables)
 }
 
 // The bytes of the database.
 fn bytes(alloc: Global) -> Result<Vec<u8>> {
-    let uuid = b"8c2cd125-01f3-4a01-a4b5-22ec721dff0f";
-    let mut tables = Tables::new(alloc, b"svn://h/repo", uuid)?;
-    let mut nodes = Vec::new(alloc);
-    push_nodes(alloc, &mut tables.nodes, &mut nodes)?;
-    push_texts(alloc, &mut tables.pristine)?;
-    tables.work_queue = work_rows(alloc, &work(alloc)?, 4)?;
-    tables.wc_lock.push(lock_row(alloc, OWNER)?)?;
+    let nodes = nodes(alloc)?;
+    let mut tables = tables(alloc)?;
+    push_nodes(alloc, &mut tables.nodes, &nodes)?;
     tables.count_texts(alloc)?;
     Ok(write_copy(alloc, &tables, Numbers::with_work(9), &nodes)?)
 }
@@ -150,17 +196,20 @@ pub(crate) fn print_hex<R: AllocGlobal + Print>(rt: &R) -> Result<()> {
     Ok(())
 }
 
+// Whether the work in the database is read as it was written.
+fn is_work_read(alloc: Global, bytes: &[u8]) -> Result<bool> {
+    let tables = read_tables(alloc, bytes)?;
+    let work = work(alloc)?;
+    Ok(read_work(alloc, &tables.work_queue)? == Some(work))
+}
+
 /// Prints the checksum of the database, and whether the work in it is read as it was written.
 pub(crate) fn print<R: AllocGlobal + Print>(rt: &R) -> Result<()> {
-    let alloc = rt.alloc();
-    let bytes = bytes(alloc)?;
-    let tables = read_tables(alloc, &bytes)?;
-    let same = read_work(alloc, &tables.work_queue)? == Some(work(alloc)?);
-    let sum = stand_in(alloc, &bytes)?;
+    let bytes = bytes(rt.alloc())?;
+    let same = is_work_read(rt.alloc(), &bytes)?;
+    let sum = stand_in(rt.alloc(), &bytes)?;
     let sum = str::from_utf8(sum.as_slice())?;
-    println!(rt;
-        "made: {} bytes {sum}, the work is read again: {same}",
-        bytes.len()
-    )?;
+    let len = bytes.len();
+    println!(rt; "made: {len} bytes {sum}, the work is read again: {same}")?;
     Ok(())
 }

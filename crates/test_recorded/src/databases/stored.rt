@@ -77,21 +77,39 @@ fn is_read_again(alloc: Global, tables: &Tables, nodes: &[(RelPath, BaseNode)]) 
     Ok(&read_tables(alloc, &bytes)? == tables)
 }
 
-/// Prints what is read of a database.
-pub(crate) fn print<R: Files + AllocGlobal + Print>(rt: &R, name: &str) -> Result<()> {
-    let alloc = rt.alloc();
-    let bytes = fs::read(rt, name)?;
-    let mut tables = read_tables(alloc, &bytes)?;
-    println!(rt; "{name}")?;
+fn print_made<R: AllocGlobal + Print>(
+    rt: &R,
+    nodes: &[(RelPath, BaseNode)],
+    tables: &mut Tables,
+) -> Result<()> {
+    let count = make_rows(rt.alloc(), &mut tables.nodes, nodes)?;
+    let again = is_read_again(rt.alloc(), tables, nodes)?;
+    println!(rt; "{count} base nodes, read again: {again}")?;
+    Ok(())
+}
+
+// Prints what is read of a database whose nodes have new rows.
+fn print_again<R: AllocGlobal + Print>(rt: &R, bytes: &[u8], tables: &mut Tables) -> Result<()> {
+    match read_base_tree(rt.alloc(), bytes) {
+        Ok(tree) => print_made(rt, &tree.nodes, tables),
+        Err(refusal) => {
+            println!(rt; "refused: {refusal}")?;
+            Ok(())
+        }
+    }
+}
+
+// Prints what is read of the bytes of a database.
+fn print_read<R: AllocGlobal + Print>(rt: &R, bytes: &[u8]) -> Result<()> {
+    let mut tables = read_tables(rt.alloc(), bytes)?;
     print_rows(rt, &tables)?;
     print_work(rt, &tables)?;
-    match read_base_tree(alloc, &bytes) {
-        Ok(tree) => {
-            let count = make_rows(alloc, &mut tables.nodes, &tree.nodes)?;
-            let again = is_read_again(alloc, &tables, &tree.nodes)?;
-            println!(rt; "{count} base nodes, read again: {again}")?;
-        }
-        Err(refusal) => println!(rt; "refused: {refusal}")?,
-    }
-    Ok(())
+    print_again(rt, bytes, &mut tables)
+}
+
+/// Prints what is read of a database.
+pub(crate) fn print<R: Files + AllocGlobal + Print>(rt: &R, name: &str) -> Result<()> {
+    let bytes = fs::read(rt, name)?;
+    println!(rt; "{name}")?;
+    print_read(rt, &bytes)
 }
