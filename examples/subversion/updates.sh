@@ -425,17 +425,25 @@ echo "    $stops stops, and $left of them had work left"
 echo "== beside a client at work on the same copy, for ${BESIDE_SECONDS:=10} seconds"
 begin
 again
+: >resumed.svncopy
 until=$((SECONDS + BESIDE_SECONDS))
-svncopy_works() { while [ $SECONDS -lt $until ]; do "$SVNCOPY" update dump ours/wc $((RANDOM % 4 + 2)) >>done.svncopy 2>>failed.svncopy; done; }
+# (where the client was at work when all was done, the work waits for resume)
+svncopy_works() {
+    while [ $SECONDS -lt $until ]; do
+        "$SVNCOPY" update dump ours/wc $((RANDOM % 4 + 2)) >>done.svncopy 2>>failed.svncopy || "$SVNCOPY" resume ours/wc >>resumed.svncopy 2>>failed.svncopy
+    done
+}
 svn_works() { while [ $SECONDS -lt $until ]; do svn -q update -r $((RANDOM % 4 + 2)) ours/wc >>done.svn 2>>failed.svn; svn status ours/wc >>status.svn 2>>failed.svn; done; }
 svncopy_works &
 svn_works &
 wait
-echo "    $(grep -c '^Updating' done.svncopy) updates of svncopy, which was refused $(wc -l <failed.svncopy) times"
+echo "    $(grep -c '^Updated' done.svncopy) updates of svncopy, which was refused $(wc -l <failed.svncopy) times, and $(grep -c ': completed' resumed.svncopy) completions"
 # each is a refusal of the copy, by a line of its own: what the client has half done may be in the way of anything
 grep -v '^svncopy: ours/wc: ' failed.svncopy | head -5 >got
 : >wanted
 same 'beside a client: other lines' wanted got
+# SQLite's lock is held while a database is replaced
+! grep 'a client began to write when the database was replaced' failed.svncopy || wrongly 'beside a client: ITS CHANGE IS LOST'
 "$SVNCOPY" resume ours/wc >line 2>&1 || svn cleanup ours/wc || wrongly "beside a client: NEITHER COMPLETES IT: $(cat line)"
 (cd theirs && svn -q update wc)
 svn -q update ours/wc || wrongly 'beside a client: THE CLIENT DOESN'"'"'T GO ON'

@@ -7,13 +7,13 @@ ghost use Rattle.svn_wcrows.specs.Copies.{StandsFor};
 ghost use Rattle.svn_folder.specs.Files.{is_sync};
 ghost use Rattle.svn_folder.specs.States.{seen};
 ghost use Rattle.svn_disk.specs.Goes.{Goes, IsAlways};
-ghost use Rattle.svn_disk.specs.Places.{is_inside, is_either, is_of_change};
+ghost use Rattle.svn_disk.specs.Places.{database_place, is_inside, is_either, is_of_change};
 ghost use Rattle.svn_disk.specs.Plans.{path_of, text_of_node};
-ghost use Rattle.svn_disk.specs.Crashes.{IsTextIn, OfText, EachText, IsWhole, AreNodesOf, IsTextAt, IsThere, IsOldOrNew, IsSafe, IsKept, IsBoth, IsOneOf, IsAdding, LeavesFrom, AfterFrom, Runs};
+ghost use Rattle.svn_disk.specs.Crashes.{HasBytes, IsTextIn, OfText, EachText, IsWhole, AreNodesOf, IsTextAt, IsThere, IsOldOrNew, IsSafe, IsKept, IsBoth, IsOneOf, IsAdding, LeavesFrom, AfterFrom, Runs};
 ghost use Rattle.svn_disk.specs.Spared.{GoesIn, Spares, texts_of, texts_of_either};
 ghost use Rattle.svn_disk.specs.Finding.{has_word};
 
-use crate::carry::replace_database;
+use crate::carry::{make_database, put_database};
 use crate::checkout::refuse_reserved;
 use crate::doing::{Databases, Doing};
 use crate::existing::Existing;
@@ -31,7 +31,7 @@ use crate::task::Task;
 use crate::texts::has_text;
 use crate::wanted::Wanted;
 use std::alloc::Global;
-use svn_folder::{Folder, SyncedFolder};
+use svn_folder::{DatabaseLock, Folder, SyncedFolder};
 use svn_model::BaseNode;
 use svn_types::{RelPath, Text};
 use svn_wcrows::Work;
@@ -52,10 +52,18 @@ pub(crate) struct Bringing<'a> {
 }
 
 impl Bringing<'_> {
-    // Refuses a copy that was changed since it was looked at: the last look before the new one takes its place.
-    fn look_again<F: Folder>(&self, folder: &F) -> Result<(), DiskFault> {
-        self.existing.refuse_change(self.alloc, folder)?;
-        refuse(self.alloc, folder, self.existing, self.plan)
+    // Refuses a copy that was changed since it was looked at: the last look before the new one takes its place. The database comes last, and clients are kept
+    // from it until the lock is dropped; but where it was changed, that is what is said.
+    fn look_again<F: Folder>(&self, folder: &F) -> Result<DatabaseLock, DiskFault>
+        ensures { OnOk result (IsAlways (λ s. HasBytes self.now.existing.now.database (seen s (database_place (codes ".svn")))) (F.past folder.now)) }
+    {
+        match refuse(self.alloc, folder, self.existing, self.plan) {
+            Ok(()) => self.existing.lock_unchanged(self.alloc, folder),
+            Err(fault) => {
+                self.existing.lock_unchanged(self.alloc, folder)?;
+                Err(fault)
+            }
+        }
     }
 
     // Whether the old copy has this text at the path of a file that isn't written anew.
@@ -108,7 +116,7 @@ impl Bringing<'_> {
         Ok(())
     }
 
-    // Brings all that was prepared to the disk, and looks at everything once more.
+    // Brings all that was prepared to the disk, and reads the texts.
     fn settle_all<F: Folder>(
         &self,
         folder: &mut SyncedFolder<F>,
@@ -120,11 +128,10 @@ impl Bringing<'_> {
         ensures crash { self.now.sync ≡ true → (old : List (Path × BaseNode)) → AreNodesOf self.now.existing.now.copy old → Runs (IsSafe (codes ".svn") old) (IsWhole (codes ".svn") old) (IsBoth old nodes.now) (F.past folder.old.folder) result (F.past folder.new.folder) }
     {
         settle(self.alloc, folder, self.sync)?;
-        self.look_again(folder)?;
         self.read_texts(folder, sizes, nodes)
     }
 
-    // Puts a database of the new copy in place of the old one, once all is on the disk.
+    // Puts a database of the new copy in place of the old one, once all is on the disk and was looked at again.
     fn put<F: Folder>(
         &self,
         folder: &mut SyncedFolder<F>,
@@ -137,7 +144,9 @@ impl Bringing<'_> {
         ensures crash { self.now.sync ≡ true → (old : List (Path × BaseNode)) → AreNodesOf self.now.existing.now.copy old → Runs (IsSafe (codes ".svn") old) (IsOneOf old ready.now.images.nodes.items) (IsSafe (codes ".svn") ready.now.images.nodes.items) (F.past folder.old.folder) result (F.past folder.new.folder) }
     {
         self.settle_all(folder, &ready.sizes, &ready.images.nodes)?;
-        replace_database(self.alloc, folder, self.admin, image, self.sync)
+        make_database(self.alloc, folder, self.admin, image, self.sync)?;
+        let _lock = self.look_again(folder)?;
+        put_database(self.alloc, folder, self.admin, self.sync)
     }
 
     // Puts the new copy in place of the old one, where nothing else changes on disk.
@@ -196,9 +205,10 @@ impl Bringing<'_> {
         ensures crash { self.now.sync ≡ true → (old : List (Path × BaseNode)) → AreNodesOf self.now.existing.now.copy old → Runs (IsSafe (codes ".svn") old) (IsOneOf old ready.images.nodes.items) (IsSafe (codes ".svn") ready.images.nodes.items) (F.past folder.old.folder) result (F.past folder.new.folder) }
     {
         let known = self.known(task)?;
-        let first = ready.images.next(self.alloc, &task.work)?;
-        let databases = Databases::after(self.alloc, &mut ready.images, task)?;
-        self.put(folder, &ready, first)?;
+        let image = ready.images.next(self.alloc, &task.work)?;
+        let first = Text::from_slice(self.alloc, &image)?;
+        let databases = Databases::after(self.alloc, &mut ready.images, task, first)?;
+        self.put(folder, &ready, image)?;
         let doing = Doing {
             alloc: self.alloc,
             admin: self.admin,
@@ -321,8 +331,9 @@ pub fn changes<F: Folder>(
 /// Refused before anything is changed: Reserved at the first node named `.svn` of the old copy, or else of the new one; Local, NoDirectory, Changed and
 /// InTheWay at the first path where something is in the way. Then NoText at the first file whose text isn't given, Folder, Rows, Path and Memory, and
 /// InUse, or what is refused before, where something was changed since it was looked at: the copy is the old one. Once the new database has its name,
-/// Changed where a file was edited since, InTheWay where something came to be where a directory would be, and Folder: the copy is the new one, with work left
-/// that [`resume`](crate::resume) and `svn cleanup` do.
+/// Changed where a file was edited since, InTheWay where something came to be where a directory would be, InUse where a client has changed the new database, or
+/// is about to, and Folder: the copy is the new one, with work left that [`resume`](crate::resume) and `svn cleanup` do. So it is with Overwritten, where a
+/// client began to change a database when the next one took its place; but if that was the last one no work is left.
 pub fn bring<F: Folder, S: Source>(
     alloc: Global,
     folder: &mut SyncedFolder<F>,

@@ -11,6 +11,7 @@ ghost use Rattle.svn_disk.specs.Plans.{path_of};
 ghost use Rattle.svn_disk.specs.Crashes.{IsOneOf, IsSafe, IsBoth, IsSet, Runs};
 ghost use Rattle.svn_disk.specs.Ends.{Turns, ArePlaced, AreDistinct, AreDirectories, AreMade, IsOneMade, IsOnePlaced, files_of};
 
+use crate::existing::{lock_unchanged, refuse_overwritten};
 use crate::fault::DiskFault;
 use crate::layout::Admin;
 use crate::steps::{make, make_directory_if_none, remove_if_any, rename, take, take_if};
@@ -138,8 +139,8 @@ pub(crate) fn carry_out<F: Folder>(
     sync_names(alloc, folder, work)
 }
 
-// Makes another database, whose bytes are on the disk with `sync`.
-fn make_database<F: Folder>(
+/// Makes another database, under a name of its own; its bytes are on the disk with `sync`.
+pub(crate) fn make_database<F: Folder>(
     alloc: Global,
     folder: &mut F,
     admin: &Admin,
@@ -156,8 +157,8 @@ fn make_database<F: Folder>(
     take_if(folder, Step::SyncFile(new), sync)
 }
 
-// Puts it in place of the one that is there; with `sync` its name is on the disk after it.
-fn put_database<F: Folder>(
+/// Puts it in place of the one that is there; with `sync` its name is on the disk after it. Overwritten where a client began to change that one meanwhile.
+pub(crate) fn put_database<F: Folder>(
     alloc: Global,
     folder: &mut F,
     admin: &Admin,
@@ -170,21 +171,34 @@ fn put_database<F: Folder>(
     let database = admin.database(alloc)?;
     let above = admin.folder(alloc)?;
     rename(folder, &new, &database)?;
+    refuse_overwritten(alloc, folder, admin)?;
     take_if(folder, Step::SyncDirectory(above), sync)
 }
 
-/// Puts a database in place of the one that is there; with `sync` its bytes are on the disk before, and its name after. It may be of another copy, whose
-/// texts are there as well: a crash leaves the one copy or the other.
+/// What takes the place of a database.
+#[derive(Drop)]
+pub(crate) struct Exchange<'a> {
+    /// The bytes of the database that is there.
+    pub(crate) now: &'a Text,
+    /// The next one.
+    pub(crate) image: Vec<u8>,
+}
+
+/// Puts a database in place of the one that is there, which has its bytes still; with `sync` its own bytes are on the disk before, and its name after. It may
+/// be of another copy, whose texts are there as well: a crash leaves the one copy or the other. InUse where a client has changed the one that is there, or is
+/// about to; it stays then.
 pub(crate) fn replace_database<F: Folder>(
     alloc: Global,
     folder: &mut F,
     admin: &Admin,
-    image: Vec<u8>,
+    exchange: Exchange<'_>,
     sync: bool,
 ) -> Result<(), DiskFault>
     ensures steps { Goes (is_inside admin.now.name) (F.past folder.old) result (F.past folder.new) }
-    ensures crash { sync ≡ true → admin.now.name ≡ codes ".svn" → (one two : List (Path × BaseNode)) → StandsFor two image.items → Runs (IsBoth one two) (IsOneOf one two) (IsSafe (codes ".svn") two) (F.past folder.old) result (F.past folder.new) }
+    ensures crash { sync ≡ true → admin.now.name ≡ codes ".svn" → (one two : List (Path × BaseNode)) → StandsFor two exchange.entry.image.items → Runs (IsBoth one two) (IsOneOf one two) (IsSafe (codes ".svn") two) (F.past folder.old) result (F.past folder.new) }
 {
+    let Exchange { now, image } = exchange;
     make_database(alloc, folder, admin, image, sync)?;
+    let _lock = lock_unchanged(alloc, folder, admin, now)?;
     put_database(alloc, folder, admin, sync)
 }

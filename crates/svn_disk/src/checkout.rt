@@ -11,7 +11,7 @@ ghost use Rattle.svn_disk.specs.Goes.{Goes, Does, TakesOne, IsAlways};
 ghost use Rattle.svn_disk.specs.Places.{is_inside, is_reserved, is_of_copy};
 ghost use Rattle.svn_disk.specs.Plans.{present_nodes, work_of};
 
-use crate::carry::{carry_out, replace_database};
+use crate::carry::{Exchange, carry_out, replace_database};
 use crate::contents::Contents;
 use crate::fault::DiskFault;
 use crate::layout::{Admin, is_reserved};
@@ -74,6 +74,15 @@ struct LaidOut {
     progress: Progress,
     // The database that it has.
     image: Text,
+}
+
+// The databases of a copy that was made.
+#[derive(Drop)]
+struct Made {
+    // The bytes of the one that it has.
+    first: Text,
+    // The one that it has once the work is done.
+    end: Vec<u8>,
 }
 
 // What all of a checkout is made with.
@@ -342,17 +351,17 @@ fn lay_out_on_disk<F: Folder, S: Source>(
     what: &Checkout<'_>,
     contents: &Contents,
     admin: &Admin,
-) -> Result<Progress, DiskFault>
+) -> Result<LaidOut, DiskFault>
     requires { contents.now.nodes.items ≡ present_nodes what.now.copy.now }
     ensures steps { Goes (is_inside admin.now.name) (F.past folder.old.folder) result (F.past folder.new.folder) }
     ensures synced { what.now.sync ≡ true → OnOk result (IsSyncedPast (F.past folder.new.folder)) }
     ensures whole { OnOk result (IsAlways (λ s. IsWhole admin.now.name (present_nodes what.now.copy.now) (seen s)) (F.past folder.new.folder)) }
     ensures ends { OnOk result (Turns (λ before left. AreReady admin.now.name 0 what.now.copy.now left) (F.past folder.old.folder) (F.past folder.new.folder)) }
 {
-    let LaidOut { progress, image } = lay_out(alloc, folder, source, what, contents, admin)?;
+    let laid = lay_out(alloc, folder, source, what, contents, admin)?;
     settle(alloc, folder, what.sync)?;
-    read_back(alloc, folder, admin, what.copy, &image)?;
-    Ok(progress)
+    read_back(alloc, folder, admin, what.copy, &laid.image)?;
+    Ok(laid)
 }
 
 // The administrative folder gets its name.
@@ -365,25 +374,27 @@ fn name_folder<F: Folder>(alloc: Global, folder: &mut F) -> Result<(), DiskFault
     take(folder, Step::RenameDirectory { from, to })
 }
 
-// Makes the copy, with work left. Returns the database that it has once the work is done.
+// Makes the copy, with work left.
 fn make_copy<F: Folder, S: Source>(
     alloc: Global,
     folder: &mut SyncedFolder<F>,
     source: &mut S,
     what: &Checkout<'_>,
     contents: &Contents,
-) -> Result<Vec<u8>, DiskFault>
+) -> Result<Made, DiskFault>
     requires { contents.now.nodes.items ≡ present_nodes what.now.copy.now }
     ensures steps { Goes (is_of_copy what.now.copy.now) (F.past folder.old.folder) result (F.past folder.new.folder) }
     ensures crash { what.now.sync ≡ true → Runs IsFree (IsNoneOrWhole (present_nodes what.now.copy.now)) (IsSafe (codes ".svn") (present_nodes what.now.copy.now)) (F.past folder.old.folder) result (F.past folder.new.folder) }
-    ensures image { IfOk result (λ image. StandsFor (present_nodes what.now.copy.now) image.items) }
+    ensures image { IfOk result (λ made. StandsFor (present_nodes what.now.copy.now) made.end.items) }
     ensures ends { OnOk result (Turns (λ before left. AreReady (codes ".svn") 0 what.now.copy.now left) (F.past folder.old.folder) (F.past folder.new.folder)) }
 {
     let admin = Admin::of_new(alloc)?;
-    let mut progress = lay_out_on_disk(alloc, folder, source, what, contents, &admin)?;
+    let laid = lay_out_on_disk(alloc, folder, source, what, contents, &admin)?;
+    let LaidOut { progress, image } = laid;
+    let mut progress = progress;
     let end = image_at_end(alloc, &mut progress, contents)?;
     name_folder(alloc, folder)?;
-    Ok(end)
+    Ok(Made { first: image, end })
 }
 
 // Does the work of a copy that was made, and puts the database without it in place of the other.
@@ -392,11 +403,11 @@ fn finish_copy<F: Folder>(
     folder: &mut F,
     what: &Checkout<'_>,
     contents: &Contents,
-    end: Vec<u8>,
+    made: Made,
 ) -> Result<(), DiskFault>
     requires reserved { list_any (λ entry. is_reserved entry.0) what.now.copy.now ≡ false }
     requires work { contents.now.work.items ≡ work_of what.now.copy.now }
-    requires image { StandsFor (present_nodes what.now.copy.now) end.items }
+    requires image { StandsFor (present_nodes what.now.copy.now) made.end.items }
     ensures steps { Goes (is_of_copy what.now.copy.now) (F.past folder.old) result (F.past folder.new) }
     ensures crash { what.now.sync ≡ true → Runs (IsSafe (codes ".svn") (present_nodes what.now.copy.now)) (IsNoneOrWhole (present_nodes what.now.copy.now)) (IsSafe (codes ".svn") (present_nodes what.now.copy.now)) (F.past folder.old) result (F.past folder.new) }
     ensures ends { OnOk result (Turns (ArePlaced (codes ".svn") 0 (work_of what.now.copy.now)) (F.past folder.old) (F.past folder.new)) }
@@ -405,7 +416,12 @@ fn finish_copy<F: Folder>(
     what.copy.law();
     let admin = Admin::of_copy(alloc)?;
     carry_out(alloc, folder, &admin, &contents.work, what.sync)?;
-    replace_database(alloc, folder, &admin, end, what.sync)
+    let Made { first, end } = made;
+    let exchange = Exchange {
+        now: &first,
+        image: end,
+    };
+    replace_database(alloc, folder, &admin, exchange, what.sync)
 }
 
 /// Refuses what [`check_out`] refuses of a copy and a folder before it changes anything: Reserved, ACopy, CutOff, InTheWay, Folder, Memory. Nothing may be
@@ -425,7 +441,8 @@ pub fn refuse_check_out<F: Folder>(
 /// cut off, InTheWay at the first path of the copy in the folder itself that is taken. Then NoText at the first file whose text isn't given, NoStandIn
 /// where a text is no stand-in by SHA-1, Folder where a step fails, InTheWay where something came to be where a directory would be, Rows, Path and Memory.
 /// Before the administrative folder has its name there is no copy; from then on there is the whole copy, with work left that `svn cleanup` does too: with
-/// `sync`, whenever the program or the power stops.
+/// `sync`, whenever the program or the power stops. InUse where a client has changed that copy's database, or is about to, and Overwritten where one began to
+/// when the last database took its place.
 pub fn check_out<F: Folder, S: Source>(
     alloc: Global,
     folder: &mut SyncedFolder<F>,
@@ -442,6 +459,6 @@ pub fn check_out<F: Folder, S: Source>(
     refuse_reserved(what.copy)?;
     refuse_taken(alloc, folder, what.copy)?;
     let contents = Contents::of(alloc, what.copy)?;
-    let end = make_copy(alloc, folder, source, what, &contents)?;
-    finish_copy(alloc, folder, what, &contents, end)
+    let made = make_copy(alloc, folder, source, what, &contents)?;
+    finish_copy(alloc, folder, what, &contents, made)
 }

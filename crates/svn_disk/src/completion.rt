@@ -321,8 +321,9 @@ fn refuse_others<F: Folder>(
 fn databases_of(alloc: Global, existing: Existing, task: &Task) -> Result<Databases, DiskFault>
     ensures { IfOk result (λ databases. AreOfNodes existing.nodes.items databases) }
 {
+    let first = existing.database.clone()?;
     let mut images = existing.into_images();
-    Databases::after(alloc, &mut images, task)
+    Databases::after(alloc, &mut images, task, first)
 }
 
 // Completes the copy that is there.
@@ -382,8 +383,9 @@ fn complete_if_busy<F: Folder>(
 ///
 /// Refused before anything is changed: NoCopy; InUse where a client is about to write, and Journal; Foreign where the work is a client's, or the database was
 /// changed since, which `svn cleanup` is for; NoText where a pristine text isn't the one that its stand-in names; InTheWay at the first path where something
-/// is that isn't the copy's. Then Changed where a file was edited since, InTheWay where something came to be where a directory would be, Folder, Rows, Path and
-/// Memory: what is left of the work waits. It may be cut off, and done again: with `sync` the copy that is on the disk stays there, whenever the program or the
+/// is that isn't the copy's. Then Changed where a file was edited since, InTheWay where something came to be where a directory would be, InUse where a client
+/// has changed the database since, or is about to, Folder, Rows, Path and Memory: what is left of the work waits. Overwritten where a client began to change the
+/// database when the next one took its place. It may be cut off, and done again: with `sync` the copy that is on the disk stays there, whenever the program or the
 /// power stops.
 pub fn resume<F: Folder>(alloc: Global, folder: &mut F, sync: bool) -> Result<Resumed, DiskFault>
     ensures steps { Goes (is_inside (codes ".svn-new")) (F.past folder.old) result (F.past folder.new) ⊎ Goes (is_doing (codes ".svn") is_outside) (F.past folder.old) result (F.past folder.new) }

@@ -15,7 +15,7 @@ ghost use Rattle.svn_disk.specs.Crashes.{IsSafe, IsWhole, AreOfNodes, Runs};
 ghost use Rattle.svn_disk.specs.Spared.{GoesIn, Spares};
 ghost use Rattle.svn_disk.specs.Finding.{has_word};
 
-use crate::carry::{files_in, parents, replace_database};
+use crate::carry::{Exchange, files_in, parents, replace_database};
 use crate::database_image::Images;
 use crate::fault::DiskFault;
 use crate::known::KnownTexts;
@@ -26,7 +26,7 @@ use crate::task::Task;
 use std::alloc::Global;
 use std::collections::BTreeSet;
 use svn_folder::{Entry, Folder, FolderFault, Step};
-use svn_types::RelPath;
+use svn_types::{RelPath, Text};
 use svn_wcrows::Work;
 
 /// With what work is done.
@@ -41,9 +41,13 @@ pub(crate) struct Doing<'a> {
     pub(crate) sync: bool,
 }
 
-/// The databases that follow: once all that goes is removed, if something comes in its place, and at the end.
+/// The database with all of the work, and those that follow: once all that goes is removed, if something comes in its place, and at the end.
 #[derive(Drop)]
 pub(crate) struct Databases {
+    /// The bytes of the one that is there when the work begins.
+    pub(crate) first: Text,
+    /// The bytes of the one between.
+    between: Option<Text>,
     pub(crate) middle: Option<Vec<u8>>,
     pub(crate) end: Vec<u8>,
 }
@@ -64,19 +68,34 @@ fn middle_after(
     }
 }
 
+// The bytes of an image, once it is a file.
+fn bytes_of(alloc: Global, image: &Option<Vec<u8>>) -> Result<Option<Text>, DiskFault> {
+    Ok(match image {
+        Some(image) => Some(Text::from_slice(alloc, image)?),
+        None => None,
+    })
+}
+
 impl Databases {
-    /// Those that follow the one with all of the work.
+    /// Those that follow the one with all of the work, and that one.
     pub(crate) fn after(
         alloc: Global,
         images: &mut Images,
         task: &Task,
+        first: Text,
     ) -> Result<Databases, DiskFault>
         ensures images { IfOk result (λ databases. AreOfNodes images.old.nodes.items databases) }
         ensures nodes { images.new.nodes.items ≡ images.old.nodes.items }
     {
         let middle = middle_after(alloc, images, task)?;
+        let between = bytes_of(alloc, &middle)?;
         let end = images.next(alloc, &[])?;
-        Ok(Databases { middle, end })
+        Ok(Databases {
+            first,
+            between,
+            middle,
+            end,
+        })
     }
 }
 
@@ -263,19 +282,26 @@ impl Doing<'_> {
         }
     }
 
-    // Puts another database of the copy in place of the one that is there.
-    fn replace<F: Folder>(&self, folder: &mut F, image: Vec<u8>) -> Result<(), DiskFault>
+    // Puts another database of the copy in place of the one that is there, which has these bytes still.
+    fn replace<F: Folder>(
+        &self,
+        folder: &mut F,
+        now: &Text,
+        image: Vec<u8>,
+    ) -> Result<(), DiskFault>
         requires { self.now.admin.now.name ≡ codes ".svn" }
         ensures steps { Goes (is_inside (codes ".svn")) (F.past folder.old) result (F.past folder.new) }
         ensures crash { self.now.sync ≡ true → (nodes : List (Path × BaseNode)) → StandsFor nodes image.items → Runs (IsSafe (codes ".svn") nodes) (IsWhole (codes ".svn") nodes) (IsSafe (codes ".svn") nodes) (F.past folder.old) result (F.past folder.new) }
     {
-        replace_database(self.alloc, folder, self.admin, image, self.sync)
+        let exchange = Exchange { now, image };
+        replace_database(self.alloc, folder, self.admin, exchange, self.sync)
     }
 
     // The same, if there is one.
     fn replace_if_any<F: Folder>(
         &self,
         folder: &mut F,
+        now: &Text,
         image: Option<Vec<u8>>,
     ) -> Result<(), DiskFault>
         requires { self.now.admin.now.name ≡ codes ".svn" }
@@ -283,13 +309,14 @@ impl Doing<'_> {
         ensures crash { self.now.sync ≡ true → (nodes : List (Path × BaseNode)) → MatchOption image ⊤ (λ image. StandsFor nodes image.items) → Runs (IsSafe (codes ".svn") nodes) (IsWhole (codes ".svn") nodes) (IsSafe (codes ".svn") nodes) (F.past folder.old) result (F.past folder.new) }
     {
         match image {
-            Some(image) => self.replace(folder, image),
+            Some(image) => self.replace(folder, now, image),
             None => Ok(()),
         }
     }
 
     /// Does the work of a copy whose database has it as its queue, and whose files that come have names of their own. Changed where a file was edited since
-    /// the work was begun, and InTheWay where something came to be where a directory would be: it is left then, and so is what follows.
+    /// the work was begun, InTheWay where something came to be where a directory would be, and InUse where a client has changed the database, or is about to:
+    /// it is left then, and so is what follows. Overwritten where a client began to change the database when the next one took its place.
     pub(crate) fn carry_on<F: Folder>(
         &self,
         folder: &mut F,
@@ -301,10 +328,15 @@ impl Doing<'_> {
         ensures spares { GoesIn (Spares (has_word self.now.known.now) (codes ".svn")) (F.past folder.old) result (F.past folder.new) }
         ensures crash { self.now.sync ≡ true → (nodes : List (Path × BaseNode)) → AreOfNodes nodes databases → Runs (IsSafe (codes ".svn") nodes) (IsWhole (codes ".svn") nodes) (IsSafe (codes ".svn") nodes) (F.past folder.old) result (F.past folder.new) }
     {
-        let Databases { middle, end } = databases;
+        let Databases {
+            first,
+            between,
+            middle,
+            end,
+        } = databases;
         self.remove_all(folder)?;
-        self.replace_if_any(folder, middle)?;
+        self.replace_if_any(folder, &first, middle)?;
         self.make_all(folder)?;
-        self.replace(folder, end)
+        self.replace(folder, between.as_ref().unwrap_or(&first), end)
     }
 }

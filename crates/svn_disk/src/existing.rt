@@ -1,11 +1,11 @@
 //! A working copy that is on disk: its tables and its base tree.
-ghost use Rattle.std.specs.Prelude.{◌≡◌, codes, Ok, IfOk};
+ghost use Rattle.std.specs.Prelude.{◌≡◌, codes, Ok, IfOk, OnOk};
 ghost use Rattle.svn_wcrows.specs.Copies.{StandsFor};
 ghost use Rattle.svn_wcrows.specs.Tables.{seen_tables, tables_of};
 ghost use Rattle.svn_folder.specs.States.{seen};
 ghost use Rattle.svn_disk.specs.Goes.{IsAlways};
 ghost use Rattle.svn_disk.specs.Places.{database_place};
-ghost use Rattle.svn_disk.specs.Crashes.{AreNodesOf, IsDatabaseOf};
+ghost use Rattle.svn_disk.specs.Crashes.{AreNodesOf, HasBytes, IsDatabaseOf};
 ghost use Rattle.svn_disk.specs.Queue.{HasDatabaseRows};
 
 use crate::contents::copy_of;
@@ -13,9 +13,10 @@ use crate::database_image::Images;
 use crate::fault::{DiskFault, OtherRepository};
 use crate::layout::Admin;
 use crate::on_disk::bytes_at;
+use crate::read_back::has_database;
 use std::alloc::Global;
 use std::collections::{BTreeMap, BTreeSet};
-use svn_folder::Folder;
+use svn_folder::{DatabaseLock, Folder};
 use svn_model::BaseNode;
 use svn_types::{RelPath, Text};
 use svn_wc::WorkingCopy;
@@ -115,23 +116,84 @@ fn owner_of(tables: &Tables) -> Result<Owner, DiskFault> {
     }
 }
 
-/// Refuses a database that a program is about to change, or was: InUse where it is locked for that, Journal where a transaction was begun and hasn't ended.
-pub(crate) fn refuse_writer<F: Folder>(
+// Whether the database has a journal of a transaction that was begun and hasn't ended.
+fn has_journal<F: Folder>(alloc: Global, folder: &F, admin: &Admin) -> Result<bool, DiskFault> {
+    Ok(match bytes_at(alloc, folder, &admin.journal(alloc)?)? {
+        Some(bytes) => !bytes.is_empty(),
+        None => false,
+    })
+}
+
+// Refuses a database that a program is about to change, or was: InUse where it is locked for that, Journal where a transaction was begun and hasn't ended.
+fn refuse_writer<F: Folder>(alloc: Global, folder: &F, admin: &Admin) -> Result<(), DiskFault> {
+    // a program takes the lock before it begins the journal, so the lock is looked at last
+    let is_begun = has_journal(alloc, folder, admin)?;
+    if folder.is_locked(&admin.database(alloc)?)? {
+        return Err(DiskFault::InUse);
+    }
+    if is_begun {
+        Err(DiskFault::Journal)
+    } else {
+        Ok(())
+    }
+}
+
+// Keeps programs from the database until the lock is dropped. InUse where one is at it.
+fn lock_database<F: Folder>(
+    alloc: Global,
+    folder: &F,
+    admin: &Admin,
+) -> Result<DatabaseLock, DiskFault> {
+    match folder.lock(&admin.database(alloc)?)? {
+        Some(lock) => Ok(lock),
+        None => Err(DiskFault::InUse),
+    }
+}
+
+// Refuses a database that hasn't these bytes. InUse.
+fn refuse_other_bytes<F: Folder>(
+    alloc: Global,
+    folder: &F,
+    admin: &Admin,
+    database: &Text,
+) -> Result<(), DiskFault>
+    ensures { OnOk result (IsAlways (λ s. HasBytes database.now (seen s (database_place admin.now.name))) (F.past folder.now)) }
+{
+    if has_database(alloc, folder, admin, database)? {
+        Ok(())
+    } else {
+        Err(DiskFault::InUse)
+    }
+}
+
+/// Keeps programs from a database that has these bytes still, until the lock is dropped. InUse where a program has changed it since, or is about to.
+pub(crate) fn lock_unchanged<F: Folder>(
+    alloc: Global,
+    folder: &F,
+    admin: &Admin,
+    database: &Text,
+) -> Result<DatabaseLock, DiskFault>
+    ensures { OnOk result (IsAlways (λ s. HasBytes database.now (seen s (database_place admin.now.name))) (F.past folder.now)) }
+{
+    let lock = lock_database(alloc, folder, admin)?;
+    // where the folder has no locks, a program begins a journal before it changes anything
+    if has_journal(alloc, folder, admin)? {
+        return Err(DiskFault::InUse);
+    }
+    refuse_other_bytes(alloc, folder, admin, database)?;
+    Ok(lock)
+}
+
+/// Refuses a database that was just put in place of another one, if a program had begun to change that one: Overwritten.
+pub(crate) fn refuse_overwritten<F: Folder>(
     alloc: Global,
     folder: &F,
     admin: &Admin,
 ) -> Result<(), DiskFault> {
-    if folder.is_locked(&admin.database(alloc)?)? {
-        return Err(DiskFault::InUse);
-    }
-    let journal = admin.journal(alloc)?;
-    let Some(bytes) = bytes_at(alloc, folder, &journal)? else {
-        return Ok(());
-    };
-    if bytes.is_empty() {
-        Ok(())
+    if has_journal(alloc, folder, admin)? {
+        Err(DiskFault::Overwritten)
     } else {
-        Err(DiskFault::Journal)
+        Ok(())
     }
 }
 
@@ -224,24 +286,16 @@ impl Existing {
         }))
     }
 
-    /// Refuses a copy that a client has changed since it was read, or is about to. InUse.
-    pub(crate) fn refuse_change<F: Folder>(
+    /// Keeps clients from the copy's database until the lock is dropped. InUse where one has changed the copy since it was read, or is about to.
+    pub(crate) fn lock_unchanged<F: Folder>(
         &self,
         alloc: Global,
         folder: &F,
-    ) -> Result<(), DiskFault> {
+    ) -> Result<DatabaseLock, DiskFault>
+        ensures { OnOk result (IsAlways (λ s. HasBytes self.now.database (seen s (database_place (codes ".svn")))) (F.past folder.now)) }
+    {
         let admin = Admin::of_copy(alloc)?;
-        let path = admin.database(alloc)?;
-        let Some(bytes) = bytes_at(alloc, folder, &path)? else {
-            return Err(DiskFault::InUse);
-        };
-        if bytes != self.database {
-            return Err(DiskFault::InUse);
-        }
-        match refuse_writer(alloc, folder, &admin) {
-            Err(DiskFault::Journal) => Err(DiskFault::InUse),
-            other => other,
-        }
+        lock_unchanged(alloc, folder, &admin, &self.database)
     }
 
     /// Whether a client, or an earlier run, has work left, or is at work.

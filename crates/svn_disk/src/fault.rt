@@ -33,9 +33,12 @@ pub enum DiskFault {
     /// The database has a journal, of a transaction that was begun and hasn't ended. Nothing was changed.
     #[error("the database has a journal: a client is at work, or was cut off, and `svn cleanup` comes first")]
     Journal,
-    /// A client has changed the copy meanwhile. Nothing was changed.
+    /// A client has changed the copy meanwhile, or is about to. Nothing was changed; or, if the work was begun, what is left of it waits.
     #[error("the working copy is in use")]
     InUse,
+    /// A client began to change the database in the instant in which another one took its place: what it changes is lost. If work is left, it waits.
+    #[error("a client began to write when the database was replaced, and its change is lost")]
+    Overwritten,
     /// Work of this library is left. Nothing was changed.
     #[error("a change was cut off: run `svncopy resume`")]
     Unfinished,

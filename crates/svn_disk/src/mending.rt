@@ -69,7 +69,7 @@ pub fn mend_changes<F: Folder>(
 /// Unfinished where work of this library is left, Foreign where a client's is; Repository; NoRoot; Reserved; what is in the way of the change: Local,
 /// NoDirectory, Changed and InTheWay at the first path. Then NoText at the first file whose text isn't given, InUse where a client changes the copy
 /// meanwhile, Folder, Rows, Path and Memory: up to the rename of the new database the copy is the old one, and from then on the new one, with work left that
-/// [`resume`](crate::resume) and `svn cleanup` do. Then it also ends with Changed and InTheWay, as [`bring`](crate::bring) does.
+/// [`resume`](crate::resume) and `svn cleanup` do. Then it also ends with Changed, InTheWay, InUse and Overwritten, as [`bring`](crate::bring) does.
 pub fn mend<F: Folder, S: Source>(
     alloc: Global,
     folder: &mut SyncedFolder<F>,

@@ -20,7 +20,7 @@ use svn_folder::Folder;
 use svn_model::BaseNode;
 use svn_types::RelPath;
 use svn_wcdb::TableRow;
-use svn_wcrows::{RowsFault, Tables, Work, read_tables};
+use svn_wcrows::{RowsFault, Tables, Work};
 
 // What is kept while files are prepared: the texts and their rows.
 #[derive(Drop)]
@@ -167,10 +167,27 @@ impl Bringing<'_> {
         Ok(Ready { images, sizes })
     }
 
-    // What there is to begin with: the tables, and the texts that have rows.
+    // The tables that stay as they are. Those of nodes and of texts are made anew, and those of work and of its lock with each database.
+    fn tables(&self) -> Result<Tables, DiskFault> {
+        let old = &self.existing.tables;
+        Ok(Tables {
+            repository: kept_rows(self.alloc, &old.repository)?,
+            wcroot: kept_rows(self.alloc, &old.wcroot)?,
+            pristine: Vec::new(self.alloc),
+            actual_node: kept_rows(self.alloc, &old.actual_node)?,
+            lock: kept_rows(self.alloc, &old.lock)?,
+            work_queue: Vec::new(self.alloc),
+            wc_lock: Vec::new(self.alloc),
+            nodes: Vec::new(self.alloc),
+            externals: kept_rows(self.alloc, &old.externals)?,
+            last_work: old.last_work,
+        })
+    }
+
+    // What there is to begin with: the tables that stay, and the texts that have rows.
     fn begin(&self) -> Result<(Tables, Keeping), DiskFault> {
-        let tables = read_tables(self.alloc, self.existing.database.as_slice())?;
-        let rows = kept_rows(self.alloc, &tables.pristine)?;
+        let tables = self.tables()?;
+        let rows = kept_rows(self.alloc, &self.existing.tables.pristine)?;
         let keeping = Keeping {
             texts: Texts::of_rows(self.alloc, &rows)?,
             rows,

@@ -62,8 +62,8 @@ fn has_bytes(entry: &Entry, image: &Text) -> bool
     }
 }
 
-// Whether the database has these bytes.
-fn has_database<F: Folder>(
+/// Whether the database has these bytes.
+pub(crate) fn has_database<F: Folder>(
     alloc: Global,
     folder: &F,
     admin: &Admin,

@@ -150,8 +150,8 @@ pub fn would_update<R: Threads + Wait + Sync, F: Folder>(
 /// Refused before anything is changed: Disk with Unfinished where work of this library is left, Foreign where a client's is, Repository; NoRevision; Untrue at
 /// the first path that isn't what the repository has there; what [`reach`] refuses; Disk with Reserved, and with what is in the way of the change: Local,
 /// NoDirectory, Changed and InTheWay at the first path. Then NoText, InUse, Folder, Rows and Path as of [`bring`]: up to the rename of the new database the copy is
-/// the old one, and from then on the new one, with work left that [`resume`](svn_disk::resume) and `svn cleanup` do: then also Disk with Changed and InTheWay.
-/// Memory. It may wait for the driver's thread.
+/// the old one, and from then on the new one, with work left that [`resume`](svn_disk::resume) and `svn cleanup` do: then also Disk with Changed, InTheWay, InUse
+/// and Overwritten. Memory. It may wait for the driver's thread.
 pub fn update<R: Threads + Wait + Sync, F: Folder, S: Source>(
     rt: &R,
     alloc: Global,

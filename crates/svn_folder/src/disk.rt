@@ -3,6 +3,7 @@ ghost use Rattle.std.specs.Prelude.{◌<◌, OnOk};
 ghost use Rattle.svn_folder.specs.Files.{Gives};
 
 use crate::at_once::{Opened, sync_at_once};
+use crate::database_lock::{DatabaseLock, Locks};
 use crate::entry::{Entry, Mode};
 use crate::fault::{FolderFault, Misfit};
 use crate::folder::Folder;
@@ -47,7 +48,8 @@ const MAX_OPEN: usize = 256;
 /// A folder of the system. Each step is the calls that it names, and a look before it at what the system wouldn't refuse. What the system refuses is
 /// `Failed`, with its error, also where the step doesn't fit.
 ///
-/// `is_locked` reads the list of all locks that Linux has in `/proc/locks`.
+/// `is_locked` reads the list of all locks that Linux has in `/proc/locks`. `lock` waits for a second or so where a program has the database locked; where
+/// the system has no such locks, or the database may not be written, it is as by default.
 ///
 /// `make_file` writes each piece as it comes, and `copy_file` from file to file, so that neither holds a text. The step of an error of theirs has no
 /// bytes. `sync_files` opens up to 256 files at a time, and syncs them in up to 16 threads.
@@ -445,7 +447,7 @@ impl<'a, T: Files<File = File> + Threads + AllocGlobal> DiskFolder<'a, T> {
     }
 }
 
-impl<T: Files<File = File> + Threads + AllocGlobal> Folder for DiskFolder<'_, T> {
+impl<T: Files<File = File> + Threads + Locks + AllocGlobal> Folder for DiskFolder<'_, T> {
     fn take(&mut self, step: Step) -> Result<(), FolderFault> {
         self.try_step(step)
     }
@@ -526,5 +528,16 @@ impl<T: Files<File = File> + Threads + AllocGlobal> Folder for DiskFolder<'_, T>
             Ok(is_locked) => Ok(is_locked),
             Err(error) => Err(unread(path, error)?),
         }
+    }
+
+    fn lock(&self, path: &RelPath) -> Result<Option<DatabaseLock>, FolderFault> {
+        if let Ok(lock) = self.rt.lock(&self.place(path)?) {
+            return Ok(lock);
+        }
+        Ok(if self.is_locked(path)? {
+            None
+        } else {
+            Some(DatabaseLock::none())
+        })
     }
 }

@@ -1,5 +1,6 @@
 //! A folder on disk: what it shows, what can be done to it, and what a crash may leave of it.
 
+use crate::database_lock::DatabaseLock;
 use crate::entry::{Entry, Mode};
 use crate::fault::{FolderFault, Misfit};
 use crate::pieces::{Pieces, all_of};
@@ -43,6 +44,17 @@ pub trait Folder {
     /// doesn't tell, none has. `Unread` if the system fails, `Memory` if an allocation fails.
     fn is_locked(&self, _path: &RelPath) -> Result<bool, FolderFault> {
         Ok(false)
+    }
+
+    /// Locks the database at a path as SQLite does, so that no program that uses SQLite reads or writes it until the lock is dropped; none where one is in
+    /// the middle of that. Where the folder has no such locks, as by default, the lock keeps nobody from anything, and none is returned where `is_locked`
+    /// says so. `Unread` if the system fails, `Memory` if an allocation fails.
+    fn lock(&self, path: &RelPath) -> Result<Option<DatabaseLock>, FolderFault> {
+        Ok(if self.is_locked(path)? {
+            None
+        } else {
+            Some(DatabaseLock::none())
+        })
     }
 
     /// Makes a file of all pieces that come, where nothing is: the step `Make`, with the time that it gets as there. A folder of the system writes each

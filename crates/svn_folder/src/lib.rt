@@ -16,7 +16,8 @@
 //!
 //! A folder also makes a file of [`Pieces`] that come one by one, makes one with the bytes of another, and syncs several files: each has the contract of
 //! the steps that it stands for. A folder of the system then holds no text in memory, and syncs in several threads. [`SyncedFolder::sync_all`] brings
-//! all to the disk that isn't there yet. [`Folder::is_locked`] tells whether another program is about to write to a file.
+//! all to the disk that isn't there yet. [`Folder::is_locked`] tells whether another program is about to write to a file, and
+//! [`Folder::lock`] keeps programs that use SQLite from a database.
 //!
 //! Definitions, in the order of reading: `specs/Entries.antt` and `States.antt` (what a path stands for, and what of it is on the disk), `Steps.antt` (when
 //! a step fits, and what it does), `Crashes.antt` (what a crash may leave, and what that assumes of a disk), `Pasts.antt` (what is known of a folder, and
@@ -35,6 +36,7 @@
 #![tactic(auto)]
 
 mod at_once;
+mod database_lock;
 mod disk;
 mod entry;
 mod fault;
@@ -52,6 +54,7 @@ mod summary;
 mod synced;
 mod unsynced;
 
+pub use database_lock::{DatabaseLock, Locks};
 pub use disk::DiskFolder;
 pub use entry::{Entry, Mode};
 pub use fault::{FolderFault, Misfit};

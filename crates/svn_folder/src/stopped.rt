@@ -2,6 +2,7 @@
 ghost use Rattle.std.specs.Prelude.{◌≡◌, ◌+◌, ◌<◌, ◌≤◌, IsErrOf};
 ghost use Rattle.svn_folder.specs.Pasts.{Takes};
 
+use crate::database_lock::DatabaseLock;
 use crate::entry::Entry;
 use crate::fault::FolderFault;
 use crate::folder::Folder;
@@ -69,5 +70,9 @@ impl<F: Folder> Folder for StoppedFolder<F> {
 
     fn is_locked(&self, path: &RelPath) -> Result<bool, FolderFault> {
         self.folder.is_locked(path)
+    }
+
+    fn lock(&self, path: &RelPath) -> Result<Option<DatabaseLock>, FolderFault> {
+        self.folder.lock(path)
     }
 }

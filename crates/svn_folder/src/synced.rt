@@ -4,6 +4,7 @@ ghost use Rattle.svn_folder.specs.Syncing.{AreMarksOf, IsSyncedPast};
 ghost use Rattle.svn_folder.specs.Marking.{marks_of};
 ghost use Rattle.svn_folder.specs.Files.{TakesSyncs};
 
+use crate::database_lock::DatabaseLock;
 use crate::entry::{Entry, Mode};
 use crate::fault::FolderFault;
 use crate::folder::Folder;
@@ -143,5 +144,9 @@ impl<F: Folder> Folder for SyncedFolder<F> {
 
     fn is_locked(&self, path: &RelPath) -> Result<bool, FolderFault> {
         self.folder.is_locked(path)
+    }
+
+    fn lock(&self, path: &RelPath) -> Result<Option<DatabaseLock>, FolderFault> {
+        self.folder.lock(path)
     }
 }

@@ -15,7 +15,7 @@ use std::rt::{Clock, Files};
 use std::thread::Threads;
 use svn_disk::{Checkout, check_out, inherited_props, refuse_check_out, refuse_reserved};
 use svn_editor::PathWord;
-use svn_folder::{DiskFolder, SyncedFolder};
+use svn_folder::{DiskFolder, Locks, SyncedFolder};
 use svn_types::{RelPath, Rev};
 use svn_wc::{WcFault, WorkingCopy};
 
@@ -47,7 +47,7 @@ fn make_folder<T: Files>(rt: &T, folder: &str) -> Result<(), Fault> {
 }
 
 // Says what would be made, or refuses it.
-fn tell<T: Files<File = File> + Threads + Print + AllocGlobal>(
+fn tell<T: Files<File = File> + Threads + Locks + Print + AllocGlobal>(
     rt: &T,
     word: &str,
     copy: &WorkingCopy,
@@ -64,10 +64,9 @@ fn tell<T: Files<File = File> + Threads + Print + AllocGlobal>(
 }
 
 /// Makes a working copy, and says of which revision it is; or says what would be made.
-pub(crate) fn make<T: Files<File = File> + Threads + Input + Print + Eprint + Clock + AllocGlobal>(
-    rt: &T,
-    words: &command_line::Checkout<'_>,
-) -> Result<(), Fault> {
+pub(crate) fn make<
+    T: Files<File = File> + Threads + Locks + Input + Print + Eprint + Clock + AllocGlobal,
+>(rt: &T, words: &command_line::Checkout<'_>) -> Result<(), Fault> {
     let alloc = rt.alloc();
     let address = address_of(alloc, words)?;
     let dump = open(rt, words.dump, words.folder)?;

@@ -31,6 +31,7 @@ use std::process::ExitCode;
 use std::rt::{Clock, Files};
 use std::sync::Wait;
 use std::thread::Threads;
+use svn_folder::Locks;
 
 // The words of the command line; the first is the program's name.
 fn words(rt: &(impl Env + AllocGlobal)) -> Result<Vec<String>, Fault> {
@@ -45,7 +46,7 @@ fn words(rt: &(impl Env + AllocGlobal)) -> Result<Vec<String>, Fault> {
 }
 
 // Completes each copy in turn; one that is refused doesn't keep the others from it.
-fn complete_all<T: Files<File = File> + Threads + Print + Eprint + AllocGlobal>(
+fn complete_all<T: Files<File = File> + Threads + Locks + Print + Eprint + AllocGlobal>(
     rt: &T,
     words: &Resume<'_>,
 ) -> ExitCode {
@@ -72,7 +73,16 @@ fn status_of<T: Eprint>(
 }
 
 fn answer<
-    T: Files<File = File> + Threads + Wait + Sync + Input + Print + Eprint + Clock + AllocGlobal,
+    T: Files<File = File>
+        + Threads
+        + Locks
+        + Wait
+        + Sync
+        + Input
+        + Print
+        + Eprint
+        + Clock
+        + AllocGlobal,
 >(rt: &T, request: &Request<'_>) -> ExitCode {
     match request {
         Request::Checkout(words) => match make(rt, words) {
@@ -94,7 +104,16 @@ fn answer<
 }
 
 fn run<
-    T: Files<File = File> + Threads + Wait + Sync + Input + Print + Eprint + Clock + AllocGlobal,
+    T: Files<File = File>
+        + Threads
+        + Locks
+        + Wait
+        + Sync
+        + Input
+        + Print
+        + Eprint
+        + Clock
+        + AllocGlobal,
 >(rt: &T, words: &[String]) -> ExitCode {
     let mut texts = Vec::new(rt.alloc());
     for word in words {

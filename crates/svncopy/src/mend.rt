@@ -13,7 +13,7 @@ use std::rt::{Clock, Files};
 use std::thread::Threads;
 use svn_disk::{Change, PathChange, Remedy, Source, mend, mend_changes};
 use svn_editor::PathWord;
-use svn_folder::{DiskFolder, SyncedFolder};
+use svn_folder::{DiskFolder, Locks, SyncedFolder};
 
 // What becomes of a path, in a word.
 fn word_of(change: Change) -> &'static str {
@@ -63,7 +63,7 @@ struct Mending<'a, T> {
     dry_run: bool,
 }
 
-impl<T: Files<File = File> + Threads + Print + AllocGlobal> Mending<'_, T> {
+impl<T: Files<File = File> + Threads + Locks + Print + AllocGlobal> Mending<'_, T> {
     // Says what would be done with a copy.
     fn tell(&self, word: &str) -> Result<(), Fault> {
         let alloc = self.rt.alloc();
@@ -92,7 +92,7 @@ impl<T: Files<File = File> + Threads + Print + AllocGlobal> Mending<'_, T> {
 }
 
 // Mends each copy in turn; one that is refused doesn't keep the others from it.
-fn mend_each<T: Files<File = File> + Threads + Print + Eprint + AllocGlobal, S: Source>(
+fn mend_each<T: Files<File = File> + Threads + Locks + Print + Eprint + AllocGlobal, S: Source>(
     mending: &Mending<'_, T>,
     source: &mut S,
     folders: &[&str],
@@ -108,7 +108,7 @@ fn mend_each<T: Files<File = File> + Threads + Print + Eprint + AllocGlobal, S: 
 
 /// Mends copies by a dump, which is read once for all of them. A refusal that is about the dump is returned, and then nothing was done.
 pub(crate) fn mend_all<
-    T: Files<File = File> + Threads + Input + Print + Eprint + Clock + AllocGlobal,
+    T: Files<File = File> + Threads + Locks + Input + Print + Eprint + Clock + AllocGlobal,
 >(rt: &T, words: &command_line::Mend<'_>) -> Result<ExitCode, Fault> {
     let alloc = rt.alloc();
     let beside = words.folders.first().copied().unwrap_or(".");

@@ -6,10 +6,10 @@ use std::path::PathBuf;
 use std::rt::Files;
 use std::thread::Threads;
 use svn_disk::{Resumed, resume};
-use svn_folder::DiskFolder;
+use svn_folder::{DiskFolder, Locks};
 
 /// Completes a working copy, and says what there was to do.
-pub(crate) fn complete<T: Files<File = File> + Threads + Print + AllocGlobal>(
+pub(crate) fn complete<T: Files<File = File> + Threads + Locks + Print + AllocGlobal>(
     rt: &T,
     word: &str,
     sync: bool,

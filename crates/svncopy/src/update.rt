@@ -16,7 +16,7 @@ use std::sync::Wait;
 use std::thread::Threads;
 use svn_disk::Existing;
 use svn_disk_update::{Aim, Updated, update, would_update};
-use svn_folder::{DiskFolder, SyncedFolder};
+use svn_folder::{DiskFolder, Locks, SyncedFolder};
 use svn_run::Options;
 use svn_types::RelPath;
 
@@ -37,7 +37,7 @@ fn options_of(words: &UpdateWords<'_>) -> Options {
 }
 
 // The folder of a copy.
-fn folder_of<'a, T: Files<File = File> + Threads + AllocGlobal>(
+fn folder_of<'a, T: Files<File = File> + Threads + Locks + AllocGlobal>(
     rt: &'a T,
     root: &Root,
 ) -> Result<DiskFolder<'a, T>, Fault> {
@@ -46,7 +46,7 @@ fn folder_of<'a, T: Files<File = File> + Threads + AllocGlobal>(
 }
 
 // The copy that a word names, or that has what it names.
-fn read<T: Files<File = File> + Threads + AllocGlobal>(
+fn read<T: Files<File = File> + Threads + Locks + AllocGlobal>(
     rt: &T,
     word: &str,
 ) -> Result<OnDisk, Fault> {
@@ -58,7 +58,7 @@ fn read<T: Files<File = File> + Threads + AllocGlobal>(
 
 // Updates or switches the copy as it was read, or says what that would do.
 fn bring<
-    T: Files<File = File> + Threads + Wait + Sync + Clock + AllocGlobal,
+    T: Files<File = File> + Threads + Locks + Wait + Sync + Clock + AllocGlobal,
     R: Read + Seek + Drop,
 >(
     rt: &T,
@@ -90,12 +90,18 @@ fn bring<
 }
 
 // Reads the dump, and brings the copy to its target.
-fn go<T: Files<File = File> + Threads + Wait + Sync + Input + Print + Eprint + Clock + AllocGlobal>(
-    rt: &T,
-    copy: &OnDisk,
-    words: &UpdateWords<'_>,
-    to: Option<&RelPath>,
-) -> Result<Updated, Fault> {
+fn go<
+    T: Files<File = File>
+        + Threads
+        + Locks
+        + Wait
+        + Sync
+        + Input
+        + Print
+        + Eprint
+        + Clock
+        + AllocGlobal,
+>(rt: &T, copy: &OnDisk, words: &UpdateWords<'_>, to: Option<&RelPath>) -> Result<Updated, Fault> {
     let dump = open(rt, words.dump, copy.root.folder.as_str())?;
     let mut progress = Progress::begin(rt, words.progress);
     let (history, texts) = dump.load(rt.alloc(), &mut progress)?;
@@ -104,7 +110,16 @@ fn go<T: Files<File = File> + Threads + Wait + Sync + Input + Print + Eprint + C
 
 /// Updates a copy, or a path of one, and prints the lines of `svn update`.
 pub(crate) fn update_copy<
-    T: Files<File = File> + Threads + Wait + Sync + Input + Print + Eprint + Clock + AllocGlobal,
+    T: Files<File = File>
+        + Threads
+        + Locks
+        + Wait
+        + Sync
+        + Input
+        + Print
+        + Eprint
+        + Clock
+        + AllocGlobal,
 >(rt: &T, words: &UpdateWords<'_>) -> Result<(), Fault> {
     let copy = read(rt, words.folder)?;
     let updated = go(rt, &copy, words, None)?;
@@ -114,7 +129,16 @@ pub(crate) fn update_copy<
 
 /// Switches a copy, or a path of one, and prints the lines of `svn switch`.
 pub(crate) fn switch_copy<
-    T: Files<File = File> + Threads + Wait + Sync + Input + Print + Eprint + Clock + AllocGlobal,
+    T: Files<File = File>
+        + Threads
+        + Locks
+        + Wait
+        + Sync
+        + Input
+        + Print
+        + Eprint
+        + Clock
+        + AllocGlobal,
 >(rt: &T, words: &Switch<'_>) -> Result<(), Fault> {
     let copy = read(rt, words.how.folder)?;
     let root = copy.existing.origin().url.as_slice();

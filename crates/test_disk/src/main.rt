@@ -1,9 +1,10 @@
 //! Working copies that are brought to disk: each stop of a checkout and of its completion, by the program's end and by a loss of power; each stop of a false
-//! copy's being put right, and of an update; what the folder has at the end; what is refused. The folder is one in memory, whose crashes are those of
-//! `svn_folder`.
+//! copy's being put right, and of an update; what the folder has at the end; what is refused; clients that write meanwhile. The folder is one in memory, whose
+//! crashes are those of `svn_folder`.
 #![tactic(auto)]
 
 mod between;
+mod clients;
 mod copies;
 mod histories;
 mod mend_refusals;
@@ -16,6 +17,7 @@ mod update_rows;
 mod updates;
 
 use anyhow::Result;
+use clients::try_clients;
 use copies::{copy, empty, inner, make};
 use mend_refusals::try_mend_refusals;
 use mends::{Falsehood, try_lost_mends, try_stopped_mends};
@@ -58,7 +60,8 @@ fn try_copies<R: Print + AllocGlobal>(rt: &R) -> Result<()> {
     let falsehood = Falsehood::new(alloc)?;
     try_stopped_mends(rt, &falsehood)?;
     try_lost_mends(rt, &falsehood)?;
-    try_mend_refusals(rt, &falsehood)
+    try_mend_refusals(rt, &falsehood)?;
+    try_clients(rt, &falsehood)
 }
 
 fn try_all<R: Print + Threads + Wait + Sync + AllocGlobal>(rt: &R) -> Result<()> {

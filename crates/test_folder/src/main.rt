@@ -13,7 +13,7 @@ use std::path::PathBuf;
 use std::rt::Files;
 use std::thread::Threads;
 use svn_folder::{
-    DiskFolder, Entry, Folder, FolderFault, Held, MemoryFolder, StoppedFolder, Summary,
+    DiskFolder, Entry, Folder, FolderFault, Held, Locks, MemoryFolder, StoppedFolder, Summary,
     SyncedFolder,
 };
 use svn_types::RelPath;
@@ -116,7 +116,9 @@ fn take_both<R: Print + AllocGlobal, F: Folder, G: Folder>(
 }
 
 // The folder on disk, which is empty.
-fn tried<R: Files<File = File> + Threads + AllocGlobal>(rt: &R) -> Result<DiskFolder<'_, R>> {
+fn tried<R: Files<File = File> + Threads + Locks + AllocGlobal>(
+    rt: &R,
+) -> Result<DiskFolder<'_, R>> {
     if std::fs::exists(rt, TRIED)? {
         std::fs::remove_dir_all(rt, TRIED)?;
     }
@@ -124,7 +126,7 @@ fn tried<R: Files<File = File> + Threads + AllocGlobal>(rt: &R) -> Result<DiskFo
     Ok(DiskFolder::new(rt, PathBuf::from_str(rt.alloc(), TRIED)?))
 }
 
-fn try_both<R: Files<File = File> + Threads + Print + AllocGlobal>(rt: &R) -> Result<()> {
+fn try_both<R: Files<File = File> + Threads + Locks + Print + AllocGlobal>(rt: &R) -> Result<()> {
     let mut memory = MemoryFolder::new(rt.alloc());
     let mut disk = SyncedFolder::new(rt.alloc(), tried(rt)?);
     for act in acts() {
@@ -132,6 +134,24 @@ fn try_both<R: Files<File = File> + Threads + Print + AllocGlobal>(rt: &R) -> Re
     }
     let mut disk = SyncedFolder::new(rt.alloc(), tried(rt)?);
     do_all(rt, &mut disk)?;
+    std::fs::remove_dir_all(rt, TRIED)?;
+    Ok(())
+}
+
+// Locks a database of the system, while it is locked and afterwards.
+fn try_locks<R: Files<File = File> + Threads + Locks + Print + AllocGlobal>(rt: &R) -> Result<()> {
+    let folder = tried(rt)?;
+    std::fs::write(rt, "tried_folder/database", b"bytes")?;
+    let path = RelPath::parse(rt.alloc(), "database")?;
+    let lock = folder.lock(&path)?;
+    let is_held = matches!(&lock, Some(lock) if lock.is_held());
+    let is_refused = folder.lock(&path)?.is_none();
+    drop(lock);
+    let is_free = folder.lock(&path)?.is_some();
+    let names = folder.list(rt.alloc(), &RelPath::root(rt.alloc()))?.len();
+    println!(rt;
+        "a lock: {is_held}, meanwhile refused: {is_refused}, afterwards: {is_free}; {names} file"
+    )?;
     std::fs::remove_dir_all(rt, TRIED)?;
     Ok(())
 }
@@ -249,5 +269,6 @@ fn main(rt: HostRuntime) -> Result<()> {
         stop_between(&rt, limit)?;
     }
     make_many(&rt)?;
+    try_locks(&rt)?;
     Ok(())
 }

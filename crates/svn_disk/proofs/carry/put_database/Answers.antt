@@ -3,7 +3,7 @@ use Rattle.std.specs.Prelude.{codes}
 use Rattle.svn_folder.specs.declared.step.Step.TheVariants.{SyncDirectory}
 use Rattle.svn_disk.specs.Places.{is_inside, new_database_place, database_place}
 use Rattle.svn_disk.specs.Crashes.{IsSafe, IsOneOf}
-use Rattle.svn_disk.proofs.Going.{goes_more, does_goes}
+use Rattle.svn_disk.proofs.Going.{goes_more, does_goes, stops_there}
 use Rattle.svn_disk.proofs.Running.{runs_more, one_runs, breaks_there}
 use Rattle.svn_disk.proofs.Whole.{IsPut}
 use Rattle.svn_disk.proofs.Replacing.{renames_inside, put_leads, put_breaks, last_leads, last_breaks, set_none}
@@ -27,6 +27,17 @@ pub returns-in_err-rename-clause-crash : goal.returns-in_err-rename-clause-crash
 returns-in_err-rename-clause-crash g c = λ sync is one two.
     let stops = put_breaks one two c.in_ok-new.new (c.in_ok-new.ensures ∙ ap new_database_place is) (g.F.Folder.past c.args.folder.now)
     (g.F.Folder.past c.rename.new.folder) c.in_ok-database.database (c.in_ok-database.ensures ∙ ap database_place is) c.in_err-rename.ensures.one.1 in search rules
+
+pub returns-in_err-refuse_overwritten-clause-steps : goal.returns-in_err-refuse_overwritten-clause-steps
+returns-in_err-refuse_overwritten-clause-steps g c =
+    let n = c.args.admin.now.name in
+    let stops = stops_there (c.in_ok-rename.ensures.does.0 (is_inside n)
+    (renames_inside n c.in_ok-new.new c.in_ok-new.ensures c.in_ok-database.database c.in_ok-database.ensures)) in search rules
+
+pub returns-in_err-refuse_overwritten-clause-crash : goal.returns-in_err-refuse_overwritten-clause-crash
+returns-in_err-refuse_overwritten-clause-crash g c = λ sync is one two.
+    let stops = breaks_there (put_leads one two c.in_ok-new.new (c.in_ok-new.ensures ∙ ap new_database_place is) (g.F.Folder.past c.args.folder.now)
+    (g.F.Folder.past c.rename.new.folder) c.in_ok-database.database (c.in_ok-database.ensures ∙ ap database_place is) c.in_ok-rename.ensures.one.0) in search rules
 
 pub returns-clause-steps : goal.returns-clause-steps
 returns-clause-steps g c =

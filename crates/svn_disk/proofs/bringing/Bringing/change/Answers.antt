@@ -16,7 +16,7 @@ use Rattle.svn_disk.proofs.bringing.Bringing.change.Goals as goal
 
 pub put-requires-clause-image : goal.put-requires-clause-image
 put-requires-clause-image g c =
-    subst (λ (xs : List (Path × BaseNode)). StandsFor xs c.in_ok-first.first.items) (sym (c.after.ensures.nodes ∙ c.next.ensures.nodes)) c.in_ok-first.ensures.image
+    subst (λ (xs : List (Path × BaseNode)). StandsFor xs c.in_ok-image.image.items) (sym (c.after.ensures.nodes ∙ c.next.ensures.nodes)) c.in_ok-image.ensures.image
 
 pub carry_on-requires-clause-outside : goal.carry_on-requires-clause-outside
 carry_on-requires-clause-outside g c =
@@ -24,6 +24,10 @@ carry_on-requires-clause-outside g c =
 
 pub returns-in_err-known-clause-crash : goal.returns-in_err-known-clause-crash
 returns-in_err-known-clause-crash g c = λ sync old are.
+    let stops = one_none old c.args.ready.images.nodes.items (g.F.Folder.past c.args.folder.now.folder) in search rules
+
+pub returns-in_err-image-clause-crash : goal.returns-in_err-image-clause-crash
+returns-in_err-image-clause-crash g c = λ sync old are.
     let stops = one_none old c.args.ready.images.nodes.items (g.F.Folder.past c.args.folder.now.folder) in search rules
 
 pub returns-in_err-first-clause-crash : goal.returns-in_err-first-clause-crash
