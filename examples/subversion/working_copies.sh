@@ -104,6 +104,38 @@ checkout plain trunk 8
 printf '%s\n' ".: true: 4 nodes, r8" "root trunk/library/sub" "set . 8" >wanted
 same "a folder within a copy" wanted got
 
+echo "== folders that are gone in the target"
+svnadmin create gone.repo; gone=file://$PWD/gone.repo
+svn -q mkdir --parents -m 1 "$gone/d/e" "$gone/t/x"; svn -q checkout "$gone" gone.wc; echo a >gone.wc/d/f; svn -q add gone.wc/d/f; svn -q commit -m 2 gone.wc
+svn -q update gone.wc; svn -q checkout "$gone/t" gone.t; svn -q copy -m 3 "$gone/t" "$gone/s"; svn -q update gone.wc; svn -q switch "$gone/t" gone.wc/s
+svn -q rm -m 4 "$gone/d" "$gone/t"; svnadmin dump -q gone.repo >gone.dump
+for folder in d d/e; do
+    for question in update calls nodes; do "$SVNAUDIT" $question gone.dump gone.wc/$folder; done >got 2>&1
+    rev=$(svnversion -n gone.wc/$folder)
+    rm -rf gone.after; cp -a gone.wc gone.after
+    # (by its path the client prints it; and the database has it as not present)
+    svn update gone.after/$folder 2>&1 | sed -n "s|^D    gone.after/$folder\$|D    .|p" >wanted
+    printf '%s\n' 'set_target_revision 4' "open_root $rev #0" "delete_entry ${folder##*/} $rev #0" 'close_directory #0' 'close_edit' >>wanted
+    sqlite3 gone.after/.svn/wc.db "select '. ' || presence from nodes where local_relpath = '$folder'" >>wanted
+    same "$folder, which is gone" wanted got
+done
+# a whole copy, and a switched folder
+for folder in gone.t gone.wc/s; do
+    svn update -q $folder >/dev/null 2>errors && { wrong=$((wrong + 1)); echo "$folder: SVN UPDATES IT"; }
+    grep -q "E160005: Target path '/t' does not exist" errors || { wrong=$((wrong + 1)); echo "$folder: SVN SAYS SOMETHING ELSE"; }
+    for question in update calls nodes; do
+        refused "$question of $folder" "svnaudit: $folder: the target path does not exist" "$SVNAUDIT" $question gone.dump $folder
+    done
+done
+
+echo "== copies within a copy"
+svn -q checkout "$gone/t@3" plain/other; mkdir plain/new; svn -q checkout "file://$PWD/repo/trunk/lib@8" plain/library/inner
+"$SVNAUDIT" check dump plain >got 2>&1
+printf '%s\n' 'svnaudit: plain: library/inner is a working copy of its own' 'svnaudit: plain: other is a working copy of its own' >wanted
+grep 'of its own' got | LC_ALL=C sort >notes
+same "copies within a copy" wanted notes
+rm -rf plain/other plain/library/inner
+
 echo "== ${RANDOM_COPIES:=40} copies at random"
 RANDOM=1
 taken=0
@@ -187,8 +219,17 @@ svn -q checkout -r 1 "file://$PWD/late.repo" early; svn -q checkout "file://$PWD
 printf '%s\n' 'svnaudit: early: the dump begins with r2, and the copy has nodes of revisions before' >wanted
 same 'a late dump' wanted got
 "$SVNAUDIT" check late.dump late >got 2>errors
-printf '%s\n' 'late: true: 4 nodes, r3' >wanted
+printf '%s\n' 'late: true: 4 nodes, r3, properties of the root as far as the dump tells them' >wanted
 same 'a late dump of a later copy' wanted got
+"$SVNAUDIT" check late.dump late/d >got 2>errors
+printf '%s\n' 'late/d: true: 1 nodes, r3' >wanted
+same 'a late dump of a folder' wanted got
+# the dump leaves out what revision 4 set on the root
+svn -q propset note kept late; svn -q commit -m 4 late; svn -q mkdir -m 5 "file://$PWD/late.repo/g"; svn -q update late
+svnadmin dump -q -r 5:5 late.repo >later.dump 2>errors
+"$SVNAUDIT" check later.dump late 2>&1 >out | tail -n 1 >got
+printf '%s\n' 'svnaudit: late: the dump begins with r5, and may leave out properties of the root that the copy has' >wanted
+same 'a late dump without properties of the root' wanted got
 for word in 8 r8; do
     "$SVNAUDIT" show dump $word trunk/a.c >got; "$SVNAUDIT" show dump "$last" trunk >>got
     "$SVNAUDIT" show dump 8 trunk/a.c >wanted; "$SVNAUDIT" show dump HEAD trunk >>wanted

@@ -14,3 +14,9 @@ pub mod TreeOrder
 pub mod Writings
 -- the line of a true copy
 pub mod CheckedLines
+-- the entry that a folder is of the directory above it
+pub mod Entries
+-- what is told of a folder whose path is gone in the target
+pub mod Deleting
+-- bytes that are read piece by piece, and compared
+pub mod Pieces

@@ -27,7 +27,7 @@ use Rattle.svn_disk_audit.specs.Repositories.{IsOfRepository}
 use Rattle.svn_answers.specs.declared.asked.History.{History as CodeHistory}
 use Rattle.svn_answers.specs.declared.asked.OnDisk.{OnDisk}
 use Rattle.svn_answers.specs.declared.fault.CopyFault.{CopyFault}
-use Rattle.svn_answers.specs.declared.fault.CopyFault.TheVariants.{Refused, Audit, Early}
+use Rattle.svn_answers.specs.declared.fault.CopyFault.TheVariants.{Refused, Audit, Early, Untold}
 use Rattle.svn_answers.specs.declared.fault.TellFault.{TellFault}
 use Rattle.svn_answers.specs.declared.fault.TellFault.TheVariants as faults
 use Rattle.svn_answers.specs.declared.notices.Notice.TheVariants.{Unanswered}
@@ -37,7 +37,9 @@ use Rattle.svn_answers.specs.declared.telling.Inquiry.{Inquiry}
 use Rattle.svn_answers.specs.declared.topic.TopicFault.{TopicFault}
 use Rattle.svn_answers.specs.Lines.{or_zero, lowest, checked_text}
 use Rattle.svn_answers.specs.Notices.{Heard, of_notes}
-use Rattle.svn_answers.specs.Topics.{IsTopicText, IsTopicFault}
+use Rattle.svn_answers.specs.Entries.{entry_of}
+use Rattle.svn_answers.specs.Untold.{has_untold_root, is_untold}
+use Rattle.svn_answers.specs.Topics.{IsToldText, IsToldFault}
 use Rattle.svn_answers.specs.Verdicts.{worst}
 
 -- what copies are compared with: a history, how it keeps texts, the UUID of its repository, where that is known, and whether that is passed over; and the
@@ -79,6 +81,8 @@ pub record IsAudited (takes : Takes) (opens : Opens) (stayed : Stayed) (compared
   pub same : stayed name database
   pub of_repository : IsAccepted takes (IsOfRepository (wanted_uuid compared)) database below
   pub any_uuid : found.any_uuid ≡ compared.any_uuid
+  pub untold_root : found.untold_root ≡ has_untold_root compared.first found.audited.copy
+  pub entry : found.entry ≡ entry_of takes database below found.audited.copy
   pub left_out : seen_left_out found.audited.left_out ≡ left_out_in takes below database
   pub audit : IsAudit takes compared.texts store compared.history database below found.audited.copy found.audited.untrue.items
   -- where the history is that of a dump, it is the verdict on these bytes
@@ -100,10 +104,23 @@ IsEarly takes opens stayed compared name first =
     (found : OnDisk) × IsAudited takes opens stayed compared name found × (first ≡ compared.first)
     × (has_early compared.first found.audited.copy ≡ true)
 
+-- the root of the repository is untrue by a property, which the dump may have left out
+abbrev pub IsUntold : Takes → Opens → Stayed → Compared → List ℕ → ℕ → Type 0
+IsUntold takes opens stayed compared name first =
+    (found : OnDisk) × IsAudited takes opens stayed compared name found × (first ≡ compared.first)
+    × (is_untold compared.first found.audited.untrue.items ≡ true)
+
+-- a copy that is answered of: the history tells of all that the verdict on it rests on
+pub record IsTellable (takes : Takes) (opens : Opens) (stayed : Stayed) (compared : Compared) (name : List ℕ) (found : OnDisk) : Type 0 where
+  pub audited : IsAudited takes opens stayed compared name found
+  pub no_early : has_early compared.first found.audited.copy ≡ false
+  pub told : is_untold compared.first found.audited.untrue.items ≡ false
+
 abbrev pub IsCopyFault : {F : Type 0} → Takes → Opens → Stayed → Compared → List ℕ → CopyFault F → Type 0
 IsCopyFault takes opens stayed compared name (Refused fault) = Unit {0}
 IsCopyFault takes opens stayed compared name (Audit fault) = IsAuditRefusal takes opens stayed compared name fault
 IsCopyFault takes opens stayed compared name (Early first) = IsEarly takes opens stayed compared name first
+IsCopyFault takes opens stayed compared name (Untold first) = IsUntold takes opens stayed compared name first
 
 -- ---- answers
 
@@ -111,8 +128,7 @@ abbrev pub Answer : Type 0 → Type 0
 Answer F = Result OnDisk (CopyFault F)
 
 abbrev pub IsAnswer : {F : Type 0} → Takes → Opens → Stayed → Compared → List ℕ → Answer F → Type 0
-IsAnswer takes opens stayed compared name (Ok found) =
-    IsAudited takes opens stayed compared name found × (has_early compared.first found.audited.copy ≡ false)
+IsAnswer takes opens stayed compared name (Ok found) = IsTellable takes opens stayed compared name found
 IsAnswer takes opens stayed compared name (Err fault) = IsCopyFault takes opens stayed compared name fault
 
 abbrev pub verdict_on : List Untrue → Verdict
@@ -126,7 +142,7 @@ verdict_of (Err fault) = verdicts.Refused
 -- a refused copy has no line
 abbrev pub answer_text : {F : Type 0} → List ℕ → Answer F → List ℕ
 answer_text name (Ok found) =
-    checked_text name found.audited.copy found.audited.untrue.items (seen_left_out found.audited.left_out) found.any_uuid
+    checked_text name found.audited.copy found.audited.untrue.items (seen_left_out found.audited.left_out) (found.any_uuid, found.untold_root)
 answer_text name (Err fault) = []
 
 -- what was passed over of a copy
@@ -160,7 +176,7 @@ pub record Checks (F : Type 0) (opens : Opens) (stayed : Stayed) (compared : Com
 -- what is asked of the copy that was found, which may have to be true
 pub record IsTold (compared : Compared) (inquiry : Inquiry) (found : OnDisk) (text : List ℕ) : Type 0 where
   pub allowed : inquiry.allow_untrue ≡ false → found.audited.untrue.items ≡ []
-  pub answer : IsTopicText compared.history found.audited.copy inquiry.topic text
+  pub answer : IsToldText compared.history found.audited.copy found.entry inquiry.topic text
 
 abbrev pub IsToldOf : {F : Type 0} → Compared → Inquiry → Answer F → List ℕ → Type 0
 IsToldOf compared inquiry (Ok found) text = IsTold compared inquiry found text
@@ -175,7 +191,7 @@ pub record IsFirstUntrue (inquiry : Inquiry) (all : List Untrue) (untrue : Untru
 -- what is asked of a copy that may be answered of is refused
 pub record IsTopicRefusal (compared : Compared) (inquiry : Inquiry) (found : OnDisk) (fault : TopicFault) : Type 0 where
   pub allowed : inquiry.allow_untrue ≡ false → found.audited.untrue.items ≡ []
-  pub why : IsTopicFault compared.history found.audited.copy inquiry.topic fault
+  pub why : IsToldFault compared.history found.audited.copy found.entry inquiry.topic fault
 
 -- why nothing is told of what was found
 abbrev pub IsTellFault : {F : Type 0} → Compared → Inquiry → Answer F → TellFault F → Type 0

@@ -2,7 +2,11 @@ pub mod Lines
 pub mod Verdicts
 pub mod Notices
 pub mod PassedOver
+pub mod Gone
 pub mod FaultTexts
+pub mod Entries
+pub mod Untold
+pub mod Working
 pub mod Topics
 pub mod NoticeLines
 pub mod Answers

@@ -2,7 +2,7 @@
 --     source_text word      the word that names it, as it is printed
 --     lowest nodes, highest nodes      the least and the greatest revision of the nodes that have one
 --     left_out_text left_out      what a sparse copy leaves out: `, 4 directories sparse, 1 entry withheld`, or nothing
---     checked_text word nodes untrue left_out any_uuid      the line of a true copy, `wc: true: 7 nodes, r2 to r3`, or the line of each untrue path
+--     checked_text word nodes untrue left_out reserved      the line of a true copy, `wc: true: 7 nodes, r2 to r3`, or the line of each untrue path
 use Rattle.std.specs.Prelude.{ℕ, min, max, Bool, List, [], ◌∷◌, ◌++◌, length, nat_eq, Option, Some, None, bytes_eq, codes, if◌then◌else◌}
 use Rattle.std.specs.Char.{is_ascii_control}
 use Rattle.std.specs.Fmt.{decimal}
@@ -73,14 +73,22 @@ left_out_text l =
 abbrev pub uuid_text : Bool → List ℕ
 uuid_text any_uuid = if any_uuid then codes ", whatever its UUID" else []
 
-abbrev pub true_line : List ℕ → List (Path × BaseNode) → LeftOut → Bool → List ℕ
-true_line name nodes left_out any_uuid =
+-- that a dump may not tell what the properties of the repository's root are
+abbrev pub root_text : Bool → List ℕ
+root_text untold = if untold then codes ", properties of the root as far as the dump tells them" else []
+
+-- what isn't known of a true copy: whether it is of the repository by its UUID, and whether the properties of the root are its own
+abbrev pub Reserved : Type 0
+Reserved = Bool × Bool
+
+abbrev pub true_line : List ℕ → List (Path × BaseNode) → LeftOut → Reserved → List ℕ
+true_line name nodes left_out reserved =
     source_text name ++ codes ": true: " ++ decimal (length nodes) ++ codes " nodes, " ++ span_text (or_zero (lowest nodes)) (or_zero (highest nodes))
-    ++ left_out_text left_out ++ uuid_text any_uuid ++ 10 ∷ []
+    ++ left_out_text left_out ++ uuid_text reserved.0 ++ root_text reserved.1 ++ 10 ∷ []
 
 abbrev pub untrue_line : List ℕ → Untrue → List ℕ
 untrue_line name u = source_text name ++ codes ": untrue: " ++ untrue_text u ++ 10 ∷ []
 
-abbrev pub checked_text : List ℕ → List (Path × BaseNode) → List Untrue → LeftOut → Bool → List ℕ
-checked_text name nodes [] left_out any_uuid = true_line name nodes left_out any_uuid
-checked_text name nodes (u ∷ us) left_out any_uuid = flat_map (untrue_line name) (u ∷ us)
+abbrev pub checked_text : List ℕ → List (Path × BaseNode) → List Untrue → LeftOut → Reserved → List ℕ
+checked_text name nodes [] left_out reserved = true_line name nodes left_out reserved
+checked_text name nodes (u ∷ us) left_out reserved = flat_map (untrue_line name) (u ∷ us)

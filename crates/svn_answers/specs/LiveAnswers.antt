@@ -20,7 +20,7 @@ use Rattle.svn_ask.specs.declared.opening.Speaker.{Speaker}
 use Rattle.svn_live_audit.specs.Conversations.{Audits, unheard}
 use Rattle.svn_answers.specs.declared.live.Connected.{Connected}
 use Rattle.svn_answers.specs.declared.fault.CopyFault.{CopyFault}
-use Rattle.svn_answers.specs.declared.fault.CopyFault.TheVariants.{Refused, Audit, Early}
+use Rattle.svn_answers.specs.declared.fault.CopyFault.TheVariants.{Refused, Audit, Early, Untold}
 use Rattle.svn_answers.specs.declared.asked.OnDisk.{OnDisk}
 use Rattle.svn_answers.specs.declared.verdict.Verdict.{Verdict}
 use Rattle.svn_answers.specs.Answers.{Answer, Answered, Opens, Stayed}
@@ -53,6 +53,7 @@ abbrev pub IsLiveCopyFault : {F : Type 0} → Opens → Stayed → List ℕ → 
 IsLiveCopyFault opens stayed name (Refused fault) = Unit {0}
 IsLiveCopyFault opens stayed name (Audit fault) = IsLiveRefusal opens stayed name fault
 IsLiveCopyFault opens stayed name (Early first) = ⊥
+IsLiveCopyFault opens stayed name (Untold first) = ⊥
 
 -- ---- a server
 
@@ -80,6 +81,7 @@ module _ {I O : Type 0} (remaining : I → Option (List ℕ)) (url : Option (Lis
     pub notes : found.notes ≡ Some read.notes
     pub left_out : found.audited.left_out ≡ read.left_out
     pub uuid : found.any_uuid ≡ false
+    pub told : found.untold_root ≡ false
     pub audit : Audits remaining at.link.ends.input at.link.asking (get_in read.copy) read.copy after.link.ends.input after.link.asking
         found.audited.untrue.items
 

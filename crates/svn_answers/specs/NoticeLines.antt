@@ -11,7 +11,7 @@ use Rattle.svn_disk_audit.specs.declared.fault.AuditFault.TheVariants as audits
 use Rattle.svn_disk_audit.specs.declared.repository.RepositoryFault.TheVariants as repositories
 use Rattle.svn_answers.specs.declared.examination.ExaminerFault.TheVariants.{Repository, Copy as OfCopy}
 use Rattle.svn_answers.specs.declared.fault.CopyFault.{CopyFault}
-use Rattle.svn_answers.specs.declared.fault.CopyFault.TheVariants.{Refused, Audit, Early}
+use Rattle.svn_answers.specs.declared.fault.CopyFault.TheVariants.{Refused, Audit, Early, Untold}
 use Rattle.svn_answers.specs.declared.fault.TellFault.{TellFault}
 use Rattle.svn_answers.specs.declared.fault.TellFault.TheVariants.{Copy, Topic}
 use Rattle.svn_answers.specs.declared.topic.TopicFault.TheVariants.{Memory}
@@ -29,6 +29,7 @@ is_copy_memory lacks (Audit (audits.Examiner (OfCopy fault))) = lacks fault
 is_copy_memory lacks (Audit (audits.Examiner (Repository repositories.Memory))) = true
 is_copy_memory lacks (Audit _) = false
 is_copy_memory lacks (Early first) = false
+is_copy_memory lacks (Untold first) = false
 
 abbrev pub is_out_of_memory : {F : Type 0} → (F → Bool) → TellFault F → Bool
 is_out_of_memory lacks (Copy fault) = is_copy_memory lacks fault

@@ -5,19 +5,25 @@
 --     LeadsToTarget h nodes      the calls of each update of a true copy leave the nodes of its target
 --     IsTopicText h nodes topic text      this is what is printed
 --     IsTopicFault h nodes topic fault      why nothing is: out of memory, or why the update isn't made
-use Rattle.std.specs.Prelude.{◌≡◌, ◌⊎◌, ℕ, ◌+◌, ◌-◌, ◌<◌, false, List, [], ◌∷◌, ◌++◌, length, map, flat_map, Option, Some, None}
+--     deleted h nodes entry topic      the name of the entry that an update deletes: of a folder whose path is gone in the target, where it is an entry
+--         of the directory above it
+--     IsToldText h nodes entry topic text      this is what is printed of a copy, or of a folder that is deleted as an entry
+--     IsToldFault h nodes entry topic fault      why neither is
+use Rattle.std.specs.Prelude.{◌≡◌, ◌⊎◌, ℕ, ◌+◌, ◌-◌, ◌<◌, false, List, [], ◌∷◌, ◌++◌, length, map, flat_map, Option, Some, None, MatchOption}
 use Rattle.std.specs.Global.{Global}
 use Rattle.md5.specs.Md5.{md5}
 use Rattle.std.specs.Prelude.{String, string_bytes, string_cmp, IsPermutation, IsSorted}
 use Rattle.svn_types.specs.Names.{Path}
 use Rattle.svn_repo.specs.History.{History}
 use Rattle.svn_editor.specs.declared.call.Call.{Call}
+use Rattle.svn_editor.specs.declared.call.Call.TheVariants.{SetTargetRevision, OpenRoot, DeleteEntry, CloseDirectory, CloseEdit}
 use Rattle.svn_editor.specs.declared.fault.EditFault.{EditFault}
 use Rattle.svn_editor.specs.declared.fault.EditFault.TheVariants.{Memory as NoMemory}
 use Rattle.svn_editor.specs.declared.mode.Mode.TheVariants as modes
 use Rattle.svn_editor.specs.Lines.{call_line}
 use Rattle.svn_report.specs.Lines.{report_text}
 use Rattle.svn_model.specs.declared.base_node.BaseNode.{BaseNode}
+use Rattle.svn_model.specs.declared.base_node.BaseNode.TheVariants.{NotPresent}
 use Rattle.svn_model.specs.declared.drive_fault.DriveFault.{DriveFault}
 use Rattle.svn_model.specs.declared.drive_fault.DriveFault.TheVariants as drives
 use Rattle.svn_model.specs.Checks.{target_fault}
@@ -25,12 +31,14 @@ use Rattle.svn_model.specs.Crawl.{crawl}
 use Rattle.svn_model.specs.Effects.{after, refusal}
 use Rattle.svn_model.specs.Ends.{call_limit}
 use Rattle.svn_model.specs.Follow.{DriveInput}
-use Rattle.svn_model.specs.Nodes.{get_in, InPathOrder, IsTrueOf}
+use Rattle.svn_model.specs.Nodes.{get_in, node_revision, InPathOrder, IsTrueOf}
 use Rattle.svn_model.specs.Result.{result}
 use Rattle.svn_drive.specs.declared.request.Request.{Request}
 use Rattle.svn_drive.specs.Requests.{requested, input_of, drive_for}
-use Rattle.svn_audit.specs.Lines.{update_lines}
+use Rattle.svn_audit.specs.declared.lines.NodeChange.TheVariants.{Deleted}
+use Rattle.svn_audit.specs.Lines.{update_lines, line_of}
 use Rattle.svn_audit.specs.Printing.{line_text}
+use Rattle.svn_nodes.specs.Lines.{node_lines}
 use Rattle.svn_wc.specs.Lines.{copy_text}
 use Rattle.svn_answers.specs.declared.topic.Topic.{Topic}
 use Rattle.svn_answers.specs.declared.topic.Topic.TheVariants.{Report, Update, Calls, Nodes}
@@ -50,6 +58,9 @@ calls_to h nodes rev = drive_for h (crawl nodes) (update_to h rev)
 
 abbrev pub line : List ℕ → List ℕ
 line text = text ++ 10 ∷ []
+
+abbrev pub calls_text : List Call → List ℕ
+calls_text calls = flat_map (λ c. line (call_line c)) calls
 
 -- these texts in byte order, a line each
 pub record AreSortedLines (texts : List (List ℕ)) (text : List ℕ) : Type 0 where
@@ -86,7 +97,7 @@ pub record AreUpdated (h : History) (nodes : List (Path × BaseNode)) (rev : Opt
 abbrev pub IsTopicText : History → List (Path × BaseNode) → Topic → List ℕ → Type 0
 IsTopicText h nodes Report text = text ≡ report_text (crawl nodes)
 IsTopicText h nodes (Update rev) text = AreSortedLines (map line_text (update_lines (get_in nodes) (calls_to h nodes rev))) text
-IsTopicText h nodes (Calls rev) text = text ≡ flat_map (λ c. line (call_line c)) (calls_to h nodes rev)
+IsTopicText h nodes (Calls rev) text = text ≡ calls_text (calls_to h nodes rev)
 IsTopicText h nodes (Nodes rev) text = AreUpdated h nodes rev text
 
 -- ---- refusals
@@ -129,3 +140,40 @@ IsTopicFault h nodes Report fault = fault ≡ Memory
 IsTopicFault h nodes (Update rev) fault = IsCallsFault h nodes rev fault
 IsTopicFault h nodes (Calls rev) fault = IsCallsFault h nodes rev fault
 IsTopicFault h nodes (Nodes rev) fault = IsNodesFault h nodes rev fault
+
+-- ---- a folder whose path is gone in the target
+
+abbrev pub deleted_by : Option (List ℕ) → Option DriveFault → Option (List ℕ)
+deleted_by entry (Some drives.NoRoot) = entry
+deleted_by entry _ = None
+
+-- why no update of the folder leads to its target
+abbrev pub fault_to : History → List (Path × BaseNode) → Topic → Option DriveFault
+fault_to h nodes Report = None
+fault_to h nodes (Update rev) = target_fault (input_to h nodes rev)
+fault_to h nodes (Calls rev) = target_fault (input_to h nodes rev)
+fault_to h nodes (Nodes rev) = target_fault (input_to h nodes rev)
+
+abbrev pub deleted : History → List (Path × BaseNode) → Option (List ℕ) → Topic → Option (List ℕ)
+deleted h nodes entry topic = deleted_by entry (fault_to h nodes topic)
+
+-- the calls in the directory above: it is opened at the folder's revision, which the client reports for it
+abbrev pub deletion_calls : ℕ → ℕ → List ℕ → List Call
+deletion_calls base target name =
+    SetTargetRevision target ∷ OpenRoot base 0 ∷ DeleteEntry (name ∷ []) base 0 ∷ CloseDirectory 0 ∷ CloseEdit ∷ []
+
+-- what is printed of the deletion: the folder's line, the calls, or that the folder isn't present
+abbrev pub deletion_text : History → ℕ → List ℕ → Topic → List ℕ
+deletion_text h base name Report = []
+deletion_text h base name (Update rev) = line (line_text (line_of Deleted []))
+deletion_text h base name (Calls rev) = calls_text (deletion_calls base (or_latest h rev) name)
+deletion_text h base name (Nodes rev) = node_lines ([], NotPresent)
+
+abbrev pub IsToldText : History → List (Path × BaseNode) → Option (List ℕ) → Topic → List ℕ → Type 0
+IsToldText h nodes entry topic text =
+    MatchOption (deleted h nodes entry topic) (IsTopicText h nodes topic text)
+    (λ name. text ≡ deletion_text h (node_revision (get_in nodes [])) name topic)
+
+-- a deletion is no fault
+abbrev pub IsToldFault : History → List (Path × BaseNode) → Option (List ℕ) → Topic → TopicFault → Type 0
+IsToldFault h nodes entry topic fault = IsTopicFault h nodes topic fault × (fault ≡ Drive drives.NoRoot → entry ≡ None)

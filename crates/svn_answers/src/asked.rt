@@ -4,23 +4,27 @@ ghost use Rattle.std.specs.Io.KnownBytes.{Appends};
 ghost use Rattle.std.specs.Option.{option_copied};
 ghost use Rattle.svn_wcdb.specs.declared.depth.Takes.TheVariants as takes;
 ghost use Rattle.svn_wcdb.specs.Sparse.{seen_left_out};
-ghost use Rattle.svn_answers.specs.Answers.{Answer, IsAudited, IsCopyFault, IsAnswer, Checks, answer_text, notices_of, verdict_of, compared, has_early, wanted_uuid};
+ghost use Rattle.svn_answers.specs.Answers.{Answer, IsAudited, IsCopyFault, IsAnswer, IsTellable, Checks, answer_text, notices_of, verdict_of, compared, has_early, wanted_uuid};
+ghost use Rattle.svn_answers.specs.Entries.{entry_of};
 ghost use Rattle.svn_answers.specs.Lines.{checked_text};
 ghost use Rattle.svn_answers.specs.Notices.{Heard, HearsAll};
 
 use crate::checked::Checked;
 use crate::copies::{Copies, Opened};
+use crate::entry::entry_of;
 use crate::examination::Examination;
 use crate::fault::{AnswerFault, CopyFault, TellFault};
 use crate::notices::{Notices, hear_fault, hear_notes};
 use crate::revisions::{or_zero, span_of};
 use crate::source::Source;
+use crate::untold::{has_untold, has_untold_root};
 use crate::verdict::Verdict;
-use std::alloc::Global;
+use std::alloc::{AllocError, Global};
 use std::io::Write;
-use svn_disk_audit::{Audited, Question, Reading, audit};
+use svn_disk_audit::{AuditFault, Audited, Question, Reading, audit};
 use svn_dump::Texts;
 use svn_repo::Repo;
+use svn_types::{Name, RelPath};
 use svn_wc::WorkingCopy;
 use svn_wcdb::{Notes, Takes};
 
@@ -48,6 +52,10 @@ pub struct OnDisk {
     pub notes: Option<Notes>,
     /// Whether its repository may be another by its UUID.
     pub any_uuid: bool,
+    /// Whether it has the repository's root, whose properties the dump may not tell.
+    pub untold_root: bool,
+    /// The entry that it is of the directory above it, where an update of that can delete it. None is looked for where sparse copies are taken.
+    pub entry: Option<Name>,
 }
 
 // Whether there are nodes of revisions before the first of a dump, which doesn't tell of them. Revision 0 has nothing.
@@ -55,6 +63,22 @@ fn has_early(first: u64, copy: &WorkingCopy) -> bool
     ensures { result ≡ has_early first copy.now }
 {
     first > 1 && or_zero(span_of(copy).first) < first
+}
+
+// The entry that a folder is of the directory above it, where none but whole copies are taken.
+fn entry_in(
+    alloc: Global,
+    takes: Takes,
+    database: &[u8],
+    below: &RelPath,
+    copy: &WorkingCopy,
+) -> Result<Option<Name>, AllocError>
+    ensures { IfOk result (λ entry. entry ≡ entry_of takes database.now below.now copy.now) }
+{
+    match takes {
+        Takes::Whole => entry_of(alloc, database, below, copy),
+        Takes::Sparse => Ok(None),
+    }
 }
 
 /// What is asked of working copies: they are opened, and compared with a history.
@@ -115,27 +139,37 @@ impl<C: Copies> Asked<'_, C> {
         {
             return Err(CopyFault::Refused(fault));
         }
-        match audited {
-            Ok(audited) => Ok(OnDisk {
-                audited,
-                notes: examination.notes,
-                any_uuid: self.history.any_uuid,
-            }),
-            Err(fault) => Err(CopyFault::Audit(fault)),
-        }
+        let audited = match audited {
+            Ok(audited) => audited,
+            Err(fault) => return Err(CopyFault::Audit(fault)),
+        };
+        let Ok(entry) = entry_in(self.alloc, takes, &database, &below, &audited.copy) else {
+            return Err(CopyFault::Audit(AuditFault::Memory));
+        };
+        Ok(OnDisk {
+            untold_root: has_untold_root(self.history.first, &audited.copy),
+            audited,
+            notes: examination.notes,
+            any_uuid: self.history.any_uuid,
+            entry,
+        })
     }
 
     /// Audits the copy that a word names, or the part of one that is in the folder of that name, as a copy of its own, which may be sparse where such
     /// copies are taken. Refused as the opener refuses it, then where it was changed while it was read, then as [`audit`] refuses it: so no fault is
-    /// reported of bytes that were read while they changed. Then Early, where it has nodes of revisions before the first of the dump, or none of any revision.
+    /// reported of bytes that were read while they changed. Then Early, where it has nodes of revisions before the first of the dump, or none of any revision;
+    /// then Untold, where the repository's root is untrue by a property, and the dump begins late.
     pub fn audit_copy(&self, takes: Takes, name: &str) -> Result<OnDisk, CopyFault<C::Fault>>
-        ensures audited { IfOk result (λ d. IsAudited takes (C.opens self.now.copies.now) (C.stayed self.now.copies.now) (compared self.now.history) name.now d × (has_early (compared self.now.history).first d.audited.copy ≡ false)) }
+        ensures audited { IfOk result (λ d. IsTellable takes (C.opens self.now.copies.now) (C.stayed self.now.copies.now) (compared self.now.history) name.now d) }
         ensures refused { IfErr result (λ e. IsCopyFault takes (C.opens self.now.copies.now) (C.stayed self.now.copies.now) (compared self.now.history) name.now e) }
     {
         let found = self.audit_opened(takes, name)?;
         let first = self.history.first;
         if has_early(first, &found.audited.copy) {
             return Err(CopyFault::Early(first));
+        }
+        if has_untold(first, &found.audited) {
+            return Err(CopyFault::Untold(first));
         }
         Ok(found)
     }
@@ -188,7 +222,7 @@ pub(crate) fn write_checked<W: Write>(
     found: &OnDisk,
     output: &mut W,
 ) -> Result<(), AnswerFault>
-    ensures { OnOk result (Appends (W.contents output.old) (W.contents output.new) (checked_text name.now found.now.audited.copy found.now.audited.untrue.items (seen_left_out found.now.audited.left_out) found.now.any_uuid)) }
+    ensures { OnOk result (Appends (W.contents output.old) (W.contents output.new) (checked_text name.now found.now.audited.copy found.now.audited.untrue.items (seen_left_out found.now.audited.left_out) (found.now.any_uuid, found.now.untold_root))) }
 {
     let checked = Checked {
         name: Source(name),
@@ -196,6 +230,7 @@ pub(crate) fn write_checked<W: Write>(
         untrue: &found.audited.untrue,
         left_out: &found.audited.left_out,
         any_uuid: found.any_uuid,
+        untold_root: found.untold_root,
     };
     if write!(output, "{checked}").is_err() || output.flush().is_err() {
         return Err(AnswerFault::Write);

@@ -3,7 +3,7 @@ ghost use Rattle.std.specs.Prelude.{◌≡◌, Some};
 ghost use Rattle.std.specs.Fmt.{DisplaysOnOk};
 ghost use Rattle.std.specs.List.{flat_map};
 ghost use Rattle.svn_wcdb.specs.Sparse.{seen_left_out};
-ghost use Rattle.svn_answers.specs.Lines.{or_zero, span_text, true_line, untrue_line, uuid_text, checked_text};
+ghost use Rattle.svn_answers.specs.Lines.{or_zero, span_text, true_line, untrue_line, uuid_text, root_text, checked_text};
 
 use crate::left_out::LeftOutText;
 use crate::revisions::{Span, or_zero, span_of};
@@ -26,6 +26,8 @@ pub struct Checked<'a> {
     pub left_out: &'a LeftOut,
     /// Whether its repository may be another by its UUID.
     pub any_uuid: bool,
+    /// Whether a dump may not tell the properties of the repository's root, which it has.
+    pub untold_root: bool,
 }
 
 impl fmt::Display for Span {
@@ -47,17 +49,31 @@ fn uuid_text(any_uuid: bool) -> &'static str
     if any_uuid { ", whatever its UUID" } else { "" }
 }
 
+fn root_text(untold: bool) -> &'static str
+    ensures { result.now ≡ root_text untold }
+{
+    if untold {
+        ", properties of the root as far as the dump tells them"
+    } else {
+        ""
+    }
+}
+
 // The line of a true copy.
 fn write_true<W: fmt::Write>(checked: &Checked<'_>, f: &mut fmt::Formatter<W>) -> fmt::Result
-    ensures { DisplaysOnOk W.write_str_gives f.old result (Some (true_line checked.now.name.0.now checked.now.copy.now (seen_left_out checked.now.left_out.now) checked.now.any_uuid)) f.new }
+    ensures { DisplaysOnOk W.write_str_gives f.old result (Some (true_line checked.now.name.0.now checked.now.copy.now (seen_left_out checked.now.left_out.now) (checked.now.any_uuid, checked.now.untold_root))) f.new }
 {
     let (name, count, span) = (
         checked.name,
         checked.copy.nodes().len(),
         span_of(checked.copy),
     );
-    let (left_out, uuid) = (LeftOutText(checked.left_out), uuid_text(checked.any_uuid));
-    writeln!(f, "{name}: true: {count} nodes, {span}{left_out}{uuid}")
+    let left_out = LeftOutText(checked.left_out);
+    let (uuid, root) = (uuid_text(checked.any_uuid), root_text(checked.untold_root));
+    writeln!(
+        f,
+        "{name}: true: {count} nodes, {span}{left_out}{uuid}{root}"
+    )
 }
 
 // The lines of untrue paths.
@@ -75,10 +91,11 @@ fn write_untrue<W: fmt::Write>(
 }
 
 /// A true copy is printed as the line `wc: true: 7 nodes, r2 to r3`, or `r3` alone where all nodes have that revision, with what it leaves out at the end
-/// (`, 4 directories sparse, 1 entry withheld`), and `, whatever its UUID` where that was passed over; an untrue one as a line for each untrue path,
+/// (`, 4 directories sparse, 1 entry withheld`), `, whatever its UUID` where that was passed over, and `, properties of the root as far as the dump tells
+/// them` where that begins late; an untrue one as a line for each untrue path,
 /// `wc: untrue: a: r3 has nothing at a`.
 impl fmt::Display for Checked<'_> {
-    ghost output = { λ c. Some (checked_text c.name.0.now c.copy.now c.untrue.now (seen_left_out c.left_out.now) c.any_uuid) };
+    ghost output = { λ c. Some (checked_text c.name.0.now c.copy.now c.untrue.now (seen_left_out c.left_out.now) (c.any_uuid, c.untold_root)) };
 
     fn fmt<W: fmt::Write>(&self, f: &mut fmt::Formatter<W>) -> fmt::Result {
         match self.untrue {

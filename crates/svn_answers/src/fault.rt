@@ -25,6 +25,8 @@ pub enum CopyFault<F> {
     Audit(AuditFault<ExaminerFault<F>>),
     /// It has nodes of revisions before this one, with which the dump begins: the history doesn't tell of them.
     Early(u64),
+    /// The repository's root is untrue by a property, and the dump begins with this revision: it may leave out what the root had before.
+    Untold(u64),
 }
 
 impl<F: fmt::Display> fmt::Display for CopyFault<F> {
@@ -37,6 +39,10 @@ impl<F: fmt::Display> fmt::Display for CopyFault<F> {
             CopyFault::Early(first) => write!(
                 f,
                 "the dump begins with r{first}, and the copy has nodes of revisions before"
+            ),
+            CopyFault::Untold(first) => write!(
+                f,
+                "the dump begins with r{first}, and may leave out properties of the root that the copy has"
             ),
         }
     }

@@ -177,6 +177,8 @@ impl<'a, C: Copies, S: Server + Drop> Live<'a, C, S> {
                     },
                     notes: Some(notes),
                     any_uuid: false,
+                    untold_root: false,
+                    entry: None,
                 })
             }
             Err(fault) => Err(LiveAnswerFault::Server(fault)),

@@ -54,7 +54,7 @@ fn is_copy_memory<C: Copies>(copies: &C, fault: &CopyFault<C::Fault>) -> bool
         CopyFault::Audit(AuditFault::Examiner(ExaminerFault::Repository(fault))) => {
             matches!(fault, RepositoryFault::Memory)
         }
-        CopyFault::Audit(_) | CopyFault::Early(_) => false,
+        CopyFault::Audit(_) | CopyFault::Early(_) | CopyFault::Untold(_) => false,
     }
 }
 

@@ -13,7 +13,7 @@ use crate::copies::Copies;
 use crate::fault::{AnswerFault, TellFault};
 use crate::notices::{Notices, hear_fault, hear_notes};
 use crate::topic::{Topic, TopicFault};
-use crate::topics::write_topic;
+use crate::topics::{Told, write_topic};
 use crate::verdict::Verdict;
 use std::io::Write;
 use svn_audit::Untrue;
@@ -52,7 +52,12 @@ impl<C: Copies> Asked<'_, C> {
         ensures told { OnOk result ((text : List ℕ) × (found : Answer C.Fault) × IsAnswer takes.Whole (C.opens self.now.copies.now) (C.stayed self.now.copies.now) (compared self.now.history) name.now found × IsToldOf (compared self.now.history) inquiry found text × Appends (W.contents output.old) (W.contents output.new) text × HearsAll N.hears (passed_over name.now found) notices.old notices.new) }
         ensures fault { IfErr result (λ e. e ≢ faults.Topic NotWritten → (found : Answer C.Fault) × IsAnswer takes.Whole (C.opens self.now.copies.now) (C.stayed self.now.copies.now) (compared self.now.history) name.now found × IsTellFault (compared self.now.history) inquiry found e × Appends (W.contents output.old) (W.contents output.new) [] × HearsAll N.hears (passed_over name.now found) notices.old notices.new) }
     {
-        let OnDisk { audited, notes, .. } = match self.audit_copy(Takes::Whole, name) {
+        let OnDisk {
+            audited,
+            notes,
+            entry,
+            ..
+        } = match self.audit_copy(Takes::Whole, name) {
             Ok(found) => found,
             Err(fault) => return Err(TellFault::Copy(fault)),
         };
@@ -67,7 +72,10 @@ impl<C: Copies> Asked<'_, C> {
             self.alloc,
             self.history.repo,
             &mut copy,
-            inquiry.topic,
+            &Told {
+                topic: inquiry.topic,
+                entry: entry.as_ref(),
+            },
             output,
         ) {
             Ok(()) => Ok(()),

@@ -2,6 +2,7 @@
 ghost use Rattle.std.specs.Prelude.{◌≡◌};
 ghost use Rattle.svn_answers.specs.declared.topic.TopicFault.TheVariants.{Memory};
 ghost use Rattle.svn_answers.specs.FaultTexts.{topic_text};
+ghost use Rattle.svn_answers.specs.Gone.{is_gone, is_no_root};
 
 use std::alloc::{AllocError, AllocFailed};
 use std::fmt;
@@ -22,6 +23,12 @@ pub enum Topic {
     Nodes(Option<Rev>),
 }
 
+fn is_no_root(fault: DriveFault) -> bool
+    ensures { result ≡ is_no_root fault }
+{
+    matches!(fault, DriveFault::NoRoot)
+}
+
 /// Why it isn't answered.
 #[derive(Clone, Copy, Debug, PartialEq, Eq, Error)]
 pub enum TopicFault {
@@ -33,11 +40,27 @@ pub enum TopicFault {
     Memory,
 }
 
+impl TopicFault {
+    /// Whether the target has nothing at the path of the copy.
+    pub(crate) fn is_gone(self) -> bool
+        ensures { result ≡ is_gone self }
+    {
+        match self {
+            TopicFault::Drive(fault) => is_no_root(fault),
+            TopicFault::Write | TopicFault::Memory => false,
+        }
+    }
+}
+
 impl fmt::Display for TopicFault {
     ghost output = { topic_text ⟦<DriveFault as fmt::Display>⟧.output };
 
     fn fmt<W: fmt::Write>(&self, f: &mut fmt::Formatter<W>) -> fmt::Result {
         match self {
+            // as Subversion's client says it (E160005)
+            TopicFault::Drive(fault) if is_no_root(*fault) => {
+                f.write_str("the target path does not exist")
+            }
             TopicFault::Drive(fault) => fault.fmt(f),
             TopicFault::Write => f.write_str("write fault"),
             TopicFault::Memory => f.write_str("out of memory"),

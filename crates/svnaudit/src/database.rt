@@ -20,10 +20,15 @@ pub(crate) struct Database {
 }
 
 impl Database {
+    /// Its file in the folder of a working copy.
+    pub(crate) fn file_in(alloc: Global, root: &PathBuf) -> Result<PathBuf, Fault> {
+        Ok(root.join(alloc, ".svn/wc.db")?)
+    }
+
     /// That of the working copy in a folder.
     pub(crate) fn of(alloc: Global, root: &PathBuf) -> Result<Database, Fault> {
         Ok(Database {
-            file: root.join(alloc, ".svn/wc.db")?,
+            file: Database::file_in(alloc, root)?,
             journal: root.join(alloc, ".svn/wc.db-journal")?,
         })
     }

@@ -5,19 +5,15 @@ use crate::folder::Folder;
 use crate::pristine::open_pristine;
 use std::fs::File;
 use std::io;
-use std::io::{BufRead, BufReader, Read, Write};
+use std::io::Write;
 use std::rt::Files;
-use svn_answers::{BusyFault, Source, Verdict};
+use svn_answers::{BusyFault, FileComparison, Source, Verdict, is_translated};
 use svn_editor::PathWord;
 use svn_model::BaseNode;
-use svn_types::{Props, RelPath, Text};
-use svn_wcdb::{Takes, read_tree};
+use svn_types::{RelPath, Text};
+use svn_wcdb::{BaseTree, Takes, read_tree};
 
-/// How many bytes of a file are read at a time.
-const PIECE: usize = 1 << 16;
-
-// Properties with which a client writes a file in other bytes than its pristine text has.
-const TRANSLATING: &[&str] = &["svn:eol-style", "svn:keywords", "svn:special"];
+const OTHER_BYTES: &str = "the file has other bytes than its pristine text";
 
 /// How many files were compared, how many of these differ, and how many weren't compared.
 #[derive(Clone, Copy)]
@@ -25,45 +21,6 @@ struct Tally {
     compared: u64,
     changed: u64,
     passed_over: u64,
-}
-
-fn is_translated(props: &Props) -> bool {
-    props
-        .iter()
-        .any(|(name, _)| TRANSLATING.contains(&name.as_str()))
-}
-
-// Whether the next bytes of both are the same, and how many they are; 0 where one is at its end.
-fn next_same<A: BufRead, B: BufRead>(left: &mut A, right: &mut B) -> io::Result<Option<usize>> {
-    let (a, b) = (left.fill_buf()?, right.fill_buf()?);
-    let count = a.len().min(b.len());
-    if count == 0 {
-        return Ok(if a.is_empty() && b.is_empty() {
-            Some(0)
-        } else {
-            None
-        });
-    }
-    Ok(if a[..count] == b[..count] {
-        Some(count)
-    } else {
-        None
-    })
-}
-
-// Whether both have the same bytes.
-fn have_same_bytes<A: BufRead, B: BufRead>(left: &mut A, right: &mut B) -> io::Result<bool> {
-    for _ in 0..u64::MAX {
-        match next_same(left, right)? {
-            Some(0) => return Ok(true),
-            Some(count) => {
-                left.consume(count);
-                right.consume(count);
-            }
-            None => return Ok(false),
-        }
-    }
-    Ok(false)
 }
 
 /// The files of one working copy.
@@ -74,13 +31,6 @@ struct Working<'a, T> {
 }
 
 impl<T: Files + AllocGlobal> Working<'_, T> {
-    fn buffered<R: Read + Drop>(&self, input: R) -> Result<BufReader<R>, Fault> {
-        match BufReader::with_capacity(self.rt.alloc(), PIECE, input) {
-            Ok(reader) => Ok(reader),
-            Err(_) => Err(Fault::Memory),
-        }
-    }
-
     // Opens the file at a path of the folder.
     fn open(&self, path: &RelPath) -> Result<io::Result<T::File>, Fault> {
         let alloc = self.rt.alloc();
@@ -90,19 +40,64 @@ impl<T: Files + AllocGlobal> Working<'_, T> {
     }
 
     // Why a file hasn't the bytes of its pristine text.
-    fn difference(&self, path: &RelPath, name: &Text) -> Result<Option<String>, Fault> {
+    fn difference(
+        &self,
+        comparison: &mut FileComparison,
+        path: &RelPath,
+        name: &Text,
+    ) -> Result<Option<String>, Fault> {
         let alloc = self.rt.alloc();
-        let file = match self.open(path)? {
+        let mut file = match self.open(path)? {
             Ok(file) => file,
             Err(error) => return Ok(Some(format!(in alloc; "{error}")?)),
         };
-        let pristine = open_pristine(self.rt, self.folder, path, name)?;
-        match have_same_bytes(&mut self.buffered(file)?, &mut self.buffered(pristine)?) {
+        let mut pristine = open_pristine(self.rt, self.folder, path, name)?;
+        match comparison.have_same_bytes(&mut file, &mut pristine) {
             Ok(true) => Ok(None),
-            Ok(false) => Ok(Some(format!(in alloc;
-                "the file has other bytes than its pristine text"
-            )?)),
+            Ok(false) => Ok(Some(OTHER_BYTES.to_string(alloc)?)),
             Err(error) => Ok(Some(format!(in alloc; "{error}")?)),
+        }
+    }
+}
+
+fn write_changed<W: Write>(
+    name: &str,
+    path: &RelPath,
+    why: &str,
+    output: &mut W,
+) -> Result<(), Fault> {
+    let (name, path) = (Source(name), PathWord(path));
+    match writeln!(output, "{name}: changed: {path}: {why}") {
+        Ok(()) => Ok(()),
+        Err(_) => Err(Fault::Write),
+    }
+}
+
+impl Tally {
+    fn none() -> Tally {
+        Tally {
+            compared: 0,
+            changed: 0,
+            passed_over: 0,
+        }
+    }
+
+    fn pass_over(&mut self) {
+        self.passed_over = self.passed_over.saturating_add(1);
+    }
+
+    fn compare(&mut self, is_changed: bool) {
+        self.compared = self.compared.saturating_add(1);
+        if is_changed {
+            self.changed = self.changed.saturating_add(1);
+        }
+    }
+
+    fn verdict(&self) -> Verdict {
+        if self.changed == 0 {
+            Verdict::True
+        } else {
+            Verdict::Untrue
         }
     }
 }
@@ -114,29 +109,45 @@ fn compare_files<T: Files + AllocGlobal, W: Write>(
     nodes: &[(RelPath, BaseNode)],
     output: &mut W,
 ) -> Result<Tally, Fault> {
-    let mut tally = Tally {
-        compared: 0,
-        changed: 0,
-        passed_over: 0,
-    };
+    let mut tally = Tally::none();
+    let mut comparison = FileComparison::new(working.rt.alloc())?;
     for (path, node) in nodes {
         let BaseNode::File { text, props, .. } = node else {
             continue;
         };
         if is_translated(props) {
-            tally.passed_over = tally.passed_over.saturating_add(1);
+            tally.pass_over();
             continue;
         }
-        tally.compared = tally.compared.saturating_add(1);
-        if let Some(why) = working.difference(path, text)? {
-            tally.changed = tally.changed.saturating_add(1);
-            let (name, path) = (Source(name), PathWord(path));
-            if writeln!(output, "{name}: changed: {path}: {why}").is_err() {
-                return Err(Fault::Write);
-            }
+        let difference = working.difference(&mut comparison, path, text)?;
+        tally.compare(difference.is_some());
+        if let Some(why) = difference {
+            write_changed(name, path, &why, output)?;
         }
     }
     Ok(tally)
+}
+
+// Writes how many files were compared.
+fn write_tally<W: Write>(name: &str, tally: &Tally, output: &mut W) -> Result<(), Fault> {
+    let (name, compared, passed_over) = (Source(name), tally.compared, tally.passed_over);
+    let written = writeln!(
+        output,
+        "{name}: {compared} files compared, {passed_over} files not compared"
+    );
+    if written.is_err() || output.flush().is_err() {
+        return Err(Fault::Write);
+    }
+    Ok(())
+}
+
+// The nodes of a database, which was read before without a refusal.
+fn nodes_of<T: Files + AllocGlobal>(rt: &T, folder: &Folder) -> Result<BaseTree, Fault> {
+    let database = folder.database(rt.alloc())?.read(rt)?;
+    match read_tree(rt.alloc(), Takes::Sparse, folder.below(), &database) {
+        Ok(read) => Ok(read.tree),
+        Err(_) => Err(Fault::Busy(BusyFault::InUse)),
+    }
 }
 
 /// Compares the files of the copy that a word names with their pristine texts: prints a line for each that differs, and how many were compared. The
@@ -147,29 +158,12 @@ pub(crate) fn check_files<T: Files + AllocGlobal, W: Write>(
     output: &mut W,
 ) -> Result<Verdict, Fault> {
     let folder = Folder::find(rt, name)?;
-    let database = folder.database(rt.alloc())?.read(rt)?;
-    // it was read before, without a refusal
-    let Ok(read) = read_tree(rt.alloc(), Takes::Sparse, folder.below(), &database) else {
-        return Err(Fault::Busy(BusyFault::InUse));
-    };
+    let tree = nodes_of(rt, &folder)?;
     let working = Working {
         rt,
         folder: &folder,
     };
-    let tally = compare_files(&working, name, &read.tree.nodes, output)?;
-    let (name, compared, passed_over) = (Source(name), tally.compared, tally.passed_over);
-    if writeln!(
-        output,
-        "{name}: {compared} files compared, {passed_over} files not compared"
-    )
-    .is_err()
-        || output.flush().is_err()
-    {
-        return Err(Fault::Write);
-    }
-    Ok(if tally.changed == 0 {
-        Verdict::True
-    } else {
-        Verdict::Untrue
-    })
+    let tally = compare_files(&working, name, &tree.nodes, output)?;
+    write_tally(name, &tally, output)?;
+    Ok(tally.verdict())
 }

@@ -102,12 +102,11 @@ fn fault_of(fault: LiveAnswerFault<Fault>) -> Fault {
 }
 
 // Asks a server, and writes the answers.
-fn ask_with<T: Files + Eprint + Clock + AllocGlobal, S: Server<Fault = Fault> + Drop, O: Write>(
-    rt: &T,
-    request: &Request<'_>,
-    server: S,
-    output: &mut O,
-) -> Result<Verdict, Fault> {
+fn ask_with<
+    T: Files + Eprint + Clock + AllocGlobal + Clone + Drop,
+    S: Server<Fault = Fault> + Drop,
+    O: Write,
+>(rt: &T, request: &Request<'_>, server: S, output: &mut O) -> Result<Verdict, Fault> {
     let copies = Folders { rt };
     let url = match request.url {
         Some(url) => Some(url.as_bytes()),
@@ -123,7 +122,7 @@ fn ask_with<T: Files + Eprint + Clock + AllocGlobal, S: Server<Fault = Fault> + 
 }
 
 /// Asks a server whether working copies are true of it. Where it is at standard output, the answers are written to standard error.
-pub(crate) fn ask_server<T: Files + Input + Print + Eprint + Clock + AllocGlobal>(
+pub(crate) fn ask_server<T: Files + Input + Print + Eprint + Clock + AllocGlobal + Clone + Drop>(
     rt: &T,
     request: &Request<'_>,
 ) -> Result<Verdict, Fault> {

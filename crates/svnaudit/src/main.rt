@@ -12,6 +12,7 @@ mod folder;
 mod lines;
 mod live;
 mod load;
+mod nested;
 mod on_disk;
 mod output;
 mod pristine;
@@ -45,7 +46,7 @@ fn words(rt: &(impl Env + AllocGlobal)) -> Result<Vec<String>, Fault> {
 }
 
 // Does what is asked, and says what is refused.
-fn answer<T: Files + Input + Print + Eprint + Clock + AllocGlobal>(
+fn answer<T: Files + Input + Print + Eprint + Clock + AllocGlobal + Clone + Drop>(
     rt: &T,
     request: &Request<'_>,
 ) -> ExitCode {
@@ -73,7 +74,7 @@ fn refuse<T: Eprint>(rt: &T, request: &Request<'_>, fault: &Fault) -> ExitCode {
     ExitCode::from(Verdict::Refused.status())
 }
 
-fn run<T: Files + Input + Print + Eprint + Clock + AllocGlobal>(
+fn run<T: Files + Input + Print + Eprint + Clock + AllocGlobal + Clone + Drop>(
     rt: &T,
     words: &[String],
 ) -> ExitCode {

@@ -4,6 +4,7 @@ ghost use Rattle.svnaudit.specs.Faults.{is_memory};
 use crate::database::Database;
 use crate::fault::Fault;
 use crate::folder::Folder;
+use crate::nested::tell_nested;
 use crate::pristine::{PristineFile, open_pristine};
 use std::rt::Files;
 use svn_answers::{Copies, Opened, Source};
@@ -49,14 +50,14 @@ fn tell_externals<T: Eprint>(rt: &T, name: &str, tree: &BaseTree) {
     }
 }
 
-impl<T: Files + Eprint + AllocGlobal> Examiner for OpenFolder<'_, T> {
+impl<T: Files + Eprint + AllocGlobal + Clone + Drop> Examiner for OpenFolder<'_, T> {
     type Fault = Fault;
 
     type Text = PristineFile<T::File>;
 
     fn examine(&mut self, tree: &BaseTree) -> Result<(), Fault> {
         tell_externals(self.rt, &self.name, tree);
-        Ok(())
+        tell_nested(self.rt, &self.name, &self.folder, tree)
     }
 
     fn pristine(&mut self, path: &RelPath, name: &Text) -> Result<PristineFile<T::File>, Fault> {
@@ -64,7 +65,7 @@ impl<T: Files + Eprint + AllocGlobal> Examiner for OpenFolder<'_, T> {
     }
 }
 
-impl<'a, T: Files + Eprint + AllocGlobal> Copies for Folders<'a, T> {
+impl<'a, T: Files + Eprint + AllocGlobal + Clone + Drop> Copies for Folders<'a, T> {
     type Fault = Fault;
 
     type Examiner = OpenFolder<'a, T>;

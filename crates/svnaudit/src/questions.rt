@@ -22,7 +22,7 @@ fn tell_mending<T: Eprint>(rt: &T, checked: Verdict) {
 }
 
 // Compares the files of a copy, unless it was refused.
-fn compare_files<T: Files + Eprint + AllocGlobal, W: Write>(
+fn compare_files<T: Files + Eprint + AllocGlobal + Clone + Drop, W: Write>(
     rt: &T,
     name: &str,
     checked: Verdict,
@@ -45,7 +45,7 @@ fn compare_files<T: Files + Eprint + AllocGlobal, W: Write>(
 }
 
 // Checks copies.
-fn check_copies<'a, T: Files + Eprint + AllocGlobal, W: Write, E: Write>(
+fn check_copies<'a, T: Files + Eprint + AllocGlobal + Clone + Drop, W: Write, E: Write>(
     rt: &'a T,
     asked: &Asked<'_, Folders<'a, T>>,
     copies: &[&str],
@@ -62,7 +62,7 @@ fn check_copies<'a, T: Files + Eprint + AllocGlobal, W: Write, E: Write>(
 }
 
 // Checks copies, each with its files if that was asked for.
-fn check_with<'a, T: Files + Print + Eprint + AllocGlobal, W: Write, E: Write>(
+fn check_with<'a, T: Files + Print + Eprint + AllocGlobal + Clone + Drop, W: Write, E: Write>(
     rt: &'a T,
     asked: &Asked<'_, Folders<'a, T>>,
     check: &Check<'_>,
@@ -81,7 +81,7 @@ fn check_with<'a, T: Files + Print + Eprint + AllocGlobal, W: Write, E: Write>(
 }
 
 // Answers what is asked, on both streams.
-fn answer_with<'a, T: Files + Print + Eprint + AllocGlobal, E: Write>(
+fn answer_with<'a, T: Files + Print + Eprint + AllocGlobal + Clone + Drop, E: Write>(
     rt: &'a T,
     history: History<'_>,
     subject: &Subject<'_>,
@@ -104,7 +104,7 @@ fn answer_with<'a, T: Files + Print + Eprint + AllocGlobal, E: Write>(
     }
 }
 
-fn answer_copies<T: Files + Print + Eprint + AllocGlobal>(
+fn answer_copies<T: Files + Print + Eprint + AllocGlobal + Clone + Drop>(
     rt: &T,
     history: History<'_>,
     subject: &Subject<'_>,
@@ -114,7 +114,7 @@ fn answer_copies<T: Files + Print + Eprint + AllocGlobal>(
     answer_with(rt, history, subject, &mut errors)
 }
 
-fn ask_of<T: Files + Input + Print + Eprint + Clock + AllocGlobal, R: Read + Drop>(
+fn ask_of<T: Files + Input + Print + Eprint + Clock + AllocGlobal + Clone + Drop, R: Read + Drop>(
     rt: &T,
     mut input: R,
     question: &Question<'_>,
@@ -133,7 +133,7 @@ fn ask_of<T: Files + Input + Print + Eprint + Clock + AllocGlobal, R: Read + Dro
 }
 
 /// Answers a question about working copies.
-pub(crate) fn ask<T: Files + Input + Print + Eprint + Clock + AllocGlobal>(
+pub(crate) fn ask<T: Files + Input + Print + Eprint + Clock + AllocGlobal + Clone + Drop>(
     rt: &T,
     question: &Question<'_>,
 ) -> Result<Verdict, Fault> {

@@ -56,3 +56,12 @@ returns-in-Ok-drive_request-clause-fault g c =
 pub returns-in-Ok-drive_request-clause-unwritten : goal.returns-in-Ok-drive_request-clause-unwritten
 returns-in-Ok-drive_request-clause-unwritten g c =
     IfErr-weaker c.write_nodes.result (λ e. e ≡ NotWritten) _ (λ e unwritten. λ other. absurd (other unwritten)) c.write_nodes.ensures.fault
+
+pub returns-in-Ok-drive_request-clause-there : goal.returns-in-Ok-drive_request-clause-there
+returns-in-Ok-drive_request-clause-there g c =
+    let asked : c.update-request.result ≡ update_to c.args.repo.now c.args.rev =
+    c.update-request.ensures ∙ ap (λ rev. requested rev modes.Update false None) c.or_latest.ensures in
+    let there =
+    target_is_there c.args.repo.now c.args.copy.now c.args.rev applier.answers _ _ c.in_ok-report.ensures.report asked _ _ _
+    c.in-Ok-drive_request.ensures.calls in
+    on_ok_weaker c.write_nodes.result (λ written. there) c.write_nodes.ensures.written

@@ -2,6 +2,7 @@ use Rattle.std.proofs.Common.{◌≡◌, ap, refl, sym, subst, ◌∙◌, Ok, Er
 use Rattle.std.proofs.KnownBytes.{Appends-nil}
 use Rattle.svn_lists.proofs.Results.{IfErr_returned}
 use Rattle.svn_answers.specs.declared.fault.TellFault.TheVariants as faults
+use Rattle.svn_answers.specs.Topics.{IsToldText, IsToldFault}
 use Rattle.svn_answers.specs.Answers.{IsTellFault, compared}
 use Rattle.svn_answers.proofs.asked.Asked.tell.Goals as goal
 
@@ -29,7 +30,10 @@ returns-in-Ok-write_topic-clause-told g c =
       told.0,
       Ok c.in-Ok.found,
       c.in-Ok.ensures.audited,
-      record { allowed = c.in_ok-refuse_untrue.ensures.none; answer = told.1 },
+      record {
+        allowed = c.in_ok-refuse_untrue.ensures.none;
+        answer = subst (λ e. IsToldText (compared c.args.self.now.history).history c.in-Ok.found.audited.copy e c.args.inquiry.topic told.0) c.as_ref.ensures.value told.1;
+      },
       told.2,
       c.hear_notes.ensures,
     )
@@ -38,7 +42,12 @@ pub returns-clause-fault : goal.returns-clause-fault
 returns-clause-fault g c = λ written. (
   Ok c.in-Ok.found,
   c.in-Ok.ensures.audited,
-  record { allowed = c.in_ok-refuse_untrue.ensures.none; why = c.in-Err-write_topic.ensures.fault (λ is. written (ap faults.Topic is)) },
+  record {
+    allowed = c.in_ok-refuse_untrue.ensures.none;
+    why =
+        subst (λ e. IsToldFault (compared c.args.self.now.history).history c.in-Ok.found.audited.copy e c.args.inquiry.topic c.in-Err-write_topic.fault)
+        c.as_ref.ensures.value (c.in-Err-write_topic.ensures.fault (λ is. written (ap faults.Topic is)));
+  },
   c.in-Err-write_topic.ensures.unwritten (λ is. written (ap faults.Topic is)),
   c.hear_notes.ensures,
 )

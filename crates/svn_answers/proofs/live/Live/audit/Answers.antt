@@ -12,5 +12,6 @@ returns-in-Ok-clause-asked g c = record {
   notes = refl;
   left_out = refl;
   uuid = refl;
+  told = refl;
   audit = c.in-Ok.ensures;
 }
