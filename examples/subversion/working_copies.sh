@@ -129,7 +129,8 @@ for folder in gone.t gone.wc/s; do
 done
 
 echo "== copies within a copy"
-svn -q checkout "$gone/t@3" plain/other; mkdir plain/new; svn -q checkout "file://$PWD/repo/trunk/lib@8" plain/library/inner
+svn -q checkout "$gone/t@3" plain/other
+svn -q checkout "file://$PWD/repo/trunk/library" plain/library/inner
 "$SVNAUDIT" check dump plain >got 2>&1
 printf '%s\n' 'svnaudit: plain: library/inner is a working copy of its own' 'svnaudit: plain: other is a working copy of its own' >wanted
 grep 'of its own' got | LC_ALL=C sort >notes
