@@ -30,9 +30,9 @@ impl DatabaseLock {
 
 /// What takes SQLite's locks on files of the system.
 pub trait Locks {
-    /// Locks the database at a path, as SQLite does before it writes its pages: the lock is one of Linux's on parts of the open file. None where another program
-    /// has it open within a transaction, and doesn't end that within a second or so. An error of the system where it has no such locks, or the file may not
-    /// be written.
+    /// Locks the database at a path, as SQLite does before it writes its pages: the lock is one of Linux's on parts of the open file. None where another
+    /// program has it open within a transaction, and doesn't end that within some tenths of a second. An error of the system where it has no such locks, or
+    /// the file may not be written.
     fn lock(&self, place: &PathBuf) -> io::Result<Option<DatabaseLock>>;
 }
 

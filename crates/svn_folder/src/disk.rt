@@ -48,8 +48,8 @@ const MAX_OPEN: usize = 256;
 /// A folder of the system. Each step is the calls that it names, and a look before it at what the system wouldn't refuse. What the system refuses is
 /// `Failed`, with its error, also where the step doesn't fit.
 ///
-/// `is_locked` reads the list of all locks that Linux has in `/proc/locks`. `lock` waits for a second or so where a program has the database locked; where
-/// the system has no such locks, or the database may not be written, it is as by default.
+/// `is_locked` reads the list of all locks that Linux has in `/proc/locks`. `lock` waits for some tenths of a second where a program has the database
+/// locked; where the system has no such locks, or the database may not be written, it is as by default.
 ///
 /// `make_file` writes each piece as it comes, and `copy_file` from file to file, so that neither holds a text. The step of an error of theirs has no
 /// bytes. `sync_files` opens up to 256 files at a time, and syncs them in up to 16 threads.
