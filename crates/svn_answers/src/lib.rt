@@ -10,14 +10,12 @@
 //!
 //! prints `trunk: true: 7 nodes, r2 to r3` and `branch: untrue: a: r3 has x at a, which the copy lacks`, and returns the status 1.
 //!
-//! Files: `loaded` loads a dump. `asked` opens and audits copies, and has `check`; `telling` the other questions, whose answers `topics` writes, of a folder that is gone
-//! `deletion`. A
-//! program opens the files: `copies` is what it implements, and `busy` says when a database isn't read. `examination` compares the repository;
-//! `entry` says which folders an update of the directory above can delete, and `untold` what a late dump leaves out.
-//! `checked`, `source`, `revisions` print lines, `show` trees, `written` a dump. `live` asks a server in place of a dump, of copies that `live_copy`
-//! reads, at a URL of `live_url`. `notices` is what hears of what an answer doesn't say; `notice_lines` and `passed_over` print it on standard error, and
-//! `both_streams` has the answers with it. `working` compares files with their
-//! pristine texts. `laws` has what the nodes after an update are.
+//! Files: `loaded` loads a dump. `asked` opens and audits copies, and has `check`; `telling` the other questions, whose answers `topics` writes, of a folder
+//! that is gone `deletion`. A program opens the files: `copies` is what it implements, and `busy` says when a database isn't read. `examination` compares the
+//! repository; `entry` says which folders an update of the directory above can delete, and `untold` what a late dump leaves out. `checked`, `source`,
+//! `revisions` print lines, `show` trees, `written` a dump. `live` asks a server in place of a dump, of copies that `live_copy` reads, at a URL of
+//! `live_url`. `notices` is what hears of what an answer doesn't say; `notice_lines` and `passed_over` print it on standard error, and `both_streams` has the
+//! answers with it. `working` compares files with their pristine texts. `laws` has what the nodes after an update are.
 //!
 //! Promises: [`Loaded::load`] gives the history of the dump's bytes and what its front says (`IsLoaded`), or the first fault of these bytes
 //! (`IsDumpRefusal`). [`Asked::check`] answers each word, in their order (`answers`): what it writes are exactly the lines of the copies that were
