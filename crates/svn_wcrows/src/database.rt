@@ -2,7 +2,7 @@
 ghost use Rattle.std.specs.Prelude.{IfOk};
 ghost use Rattle.svn_wcrows.specs.Databases.{name_of, rows_of, IsTableItem, HasTables, AreWritten};
 
-use crate::indexes::{Indexes, index_of};
+use crate::indexes::{Indexes, indexes_of};
 use crate::schema;
 use crate::tables::{Table, Tables};
 use sqlite_format::bytes::get_u32;
@@ -70,28 +70,6 @@ fn sequence(alloc: Global, tables: &Tables) -> Result<Vec<TableRow>, ImageFault>
     Ok(rows)
 }
 
-// By the places of the columns in their tables.
-fn indexes(alloc: Global, tables: &Tables) -> Result<Indexes, ImageFault> {
-    Ok(Indexes {
-        repository: index_of(alloc, &tables.repository, &[1])?,
-        uuid: index_of(alloc, &tables.repository, &[2])?,
-        root: index_of(alloc, &tables.repository, &[1])?,
-        wcroot: index_of(alloc, &tables.wcroot, &[1])?,
-        local_abspath: index_of(alloc, &tables.wcroot, &[1])?,
-        pristine: index_of(alloc, &tables.pristine, &[0])?,
-        pristine_md5: index_of(alloc, &tables.pristine, &[4])?,
-        actual_node: index_of(alloc, &tables.actual_node, &[0, 1])?,
-        actual_parent: index_of(alloc, &tables.actual_node, &[0, 2, 1])?,
-        lock: index_of(alloc, &tables.lock, &[0, 1])?,
-        wc_lock: index_of(alloc, &tables.wc_lock, &[0, 1])?,
-        nodes: index_of(alloc, &tables.nodes, &[0, 1, 2])?,
-        nodes_parent: index_of(alloc, &tables.nodes, &[0, 3, 1, 2])?,
-        nodes_moved: index_of(alloc, &tables.nodes, &[0, 9, 2])?,
-        externals: index_of(alloc, &tables.externals, &[0, 1])?,
-        externals_defined: index_of(alloc, &tables.externals, &[0, 6, 1])?,
-    })
-}
-
 /// The tables that SQLite keeps for itself.
 #[derive(Debug, Drop)]
 struct Kept {
@@ -152,57 +130,65 @@ fn items_of<'a>(tables: &'a Tables, indexes: &'a Indexes, kept: &'a Kept) -> [It
         key(
             "sqlite_autoindex_REPOSITORY_1",
             "REPOSITORY",
-            &indexes.repository,
+            &indexes.copy.repository,
         ),
         own_table("sqlite_sequence", schema::SEQUENCE, &kept.sequence),
-        index("I_UUID", "REPOSITORY", schema::UUID, &indexes.uuid),
-        index("I_ROOT", "REPOSITORY", schema::ROOT, &indexes.root),
+        index("I_UUID", "REPOSITORY", schema::UUID, &indexes.copy.uuid),
+        index("I_ROOT", "REPOSITORY", schema::ROOT, &indexes.copy.root),
         table(tables, Table::Wcroot, schema::WCROOT),
-        key("sqlite_autoindex_WCROOT_1", "WCROOT", &indexes.wcroot),
+        key("sqlite_autoindex_WCROOT_1", "WCROOT", &indexes.copy.wcroot),
         index(
             "I_LOCAL_ABSPATH",
             "WCROOT",
             schema::LOCAL_ABSPATH,
-            &indexes.local_abspath,
+            &indexes.copy.local_abspath,
         ),
         table(tables, Table::Pristine, schema::PRISTINE),
-        key("sqlite_autoindex_PRISTINE_1", "PRISTINE", &indexes.pristine),
+        key(
+            "sqlite_autoindex_PRISTINE_1",
+            "PRISTINE",
+            &indexes.actual.pristine,
+        ),
         index(
             "I_PRISTINE_MD5",
             "PRISTINE",
             schema::PRISTINE_MD5,
-            &indexes.pristine_md5,
+            &indexes.actual.pristine_md5,
         ),
         table(tables, Table::ActualNode, schema::ACTUAL_NODE),
         key(
             "sqlite_autoindex_ACTUAL_NODE_1",
             "ACTUAL_NODE",
-            &indexes.actual_node,
+            &indexes.actual.actual_node,
         ),
         index(
             "I_ACTUAL_PARENT",
             "ACTUAL_NODE",
             schema::ACTUAL_PARENT,
-            &indexes.actual_parent,
+            &indexes.actual.actual_parent,
         ),
         table(tables, Table::Lock, schema::LOCK),
-        key("sqlite_autoindex_LOCK_1", "LOCK", &indexes.lock),
+        key("sqlite_autoindex_LOCK_1", "LOCK", &indexes.locks.lock),
         table(tables, Table::WorkQueue, schema::WORK_QUEUE),
         table(tables, Table::WcLock, schema::WC_LOCK),
-        key("sqlite_autoindex_WC_LOCK_1", "WC_LOCK", &indexes.wc_lock),
+        key(
+            "sqlite_autoindex_WC_LOCK_1",
+            "WC_LOCK",
+            &indexes.locks.wc_lock,
+        ),
         table(tables, Table::Nodes, schema::NODES),
-        key("sqlite_autoindex_NODES_1", "NODES", &indexes.nodes),
+        key("sqlite_autoindex_NODES_1", "NODES", &indexes.nodes.nodes),
         index(
             "I_NODES_PARENT",
             "NODES",
             schema::NODES_PARENT,
-            &indexes.nodes_parent,
+            &indexes.nodes.nodes_parent,
         ),
         index(
             "I_NODES_MOVED",
             "NODES",
             schema::NODES_MOVED,
-            &indexes.nodes_moved,
+            &indexes.nodes.nodes_moved,
         ),
         view("NODES_CURRENT", schema::NODES_CURRENT),
         view("NODES_BASE", schema::NODES_BASE),
@@ -213,13 +199,13 @@ fn items_of<'a>(tables: &'a Tables, indexes: &'a Indexes, kept: &'a Kept) -> [It
         key(
             "sqlite_autoindex_EXTERNALS_1",
             "EXTERNALS",
-            &indexes.externals,
+            &indexes.locks.externals,
         ),
         index(
             "I_EXTERNALS_DEFINED",
             "EXTERNALS",
             schema::EXTERNALS_DEFINED,
-            &indexes.externals_defined,
+            &indexes.locks.externals_defined,
         ),
         own_table("sqlite_stat1", schema::STATISTICS, &kept.statistics),
     ]
@@ -286,7 +272,7 @@ pub fn write_tables(alloc: Global, tables: &Tables, numbers: Numbers) -> Result<
         sequence: sequence(alloc, tables)?,
         statistics: statistics(alloc)?,
     };
-    let indexes = indexes(alloc, tables)?;
+    let indexes = indexes_of(alloc, tables)?;
     let items = items_of(tables, &indexes, &kept);
     let database = Database {
         items: &items,

@@ -13,12 +13,11 @@ use crate::names::names_of;
 use answers::check_copies;
 use anyhow::{Result, bail};
 use by_hand::{Row, calls_of, copy_of_rows, rows};
-use files::{copy_in, history_of};
+use files::{copy_in, file_of, history_of};
 use one_text::audit_with_texts;
 use sparse::check_sparse;
 use std::alloc::Global;
 use std::fmt::Display;
-use std::fs;
 use std::rt::Files;
 use svn_audit::{untrue_paths, update_lines};
 use svn_drive::{Request, drive_request};
@@ -79,20 +78,36 @@ fn update(alloc: Global, repo: &Repo, copy: &mut WorkingCopy) -> Result<()> {
     Ok(())
 }
 
-fn compare_update<R: Files + AllocGlobal + Print>(
+// The copy that a database has.
+fn copy_of<R: Files + AllocGlobal>(rt: &R, name: &str, ending: &str) -> Result<WorkingCopy> {
+    copy_in(rt, &format!(in rt.alloc(); "copies/{name}.{ending}")?)
+}
+
+fn repo_of<R: Files + AllocGlobal>(rt: &R, name: &str) -> Result<Repo> {
+    let dump = format!(in rt.alloc(); "copies/{name}.dump")?;
+    history_of(rt, &dump, Texts::Sha1)
+}
+
+fn compare_lines<R: Files + AllocGlobal + Print>(
     rt: &R,
     name: &str,
     repo: &Repo,
-    mut copy: WorkingCopy,
+    copy: &WorkingCopy,
 ) -> Result<()> {
-    let alloc = rt.alloc();
-    let wanted = fs::read(rt, format!(in alloc; "copies/{name}.lines")?)?;
-    let lines = lines_in_order(alloc, repo, &copy)?;
-    compare(rt, name, "the lines", lines.as_bytes(), &wanted)?;
-    update(alloc, repo, &mut copy)?;
-    let nodes = format!(in alloc; "{copy}")?;
-    let after = copy_in(rt, &format!(in alloc; "copies/{name}.after.db")?)?;
-    let wanted = format!(in alloc; "{after}")?;
+    let wanted = file_of(rt, "copies", name, "lines")?;
+    let lines = lines_in_order(rt.alloc(), repo, copy)?;
+    compare(rt, name, "the lines", lines.as_bytes(), &wanted)
+}
+
+// Compares the nodes of a copy that was updated.
+fn compare_nodes<R: Files + AllocGlobal + Print>(
+    rt: &R,
+    name: &str,
+    copy: &WorkingCopy,
+) -> Result<()> {
+    let nodes = format!(in rt.alloc(); "{copy}")?;
+    let after = copy_of(rt, name, "after.db")?;
+    let wanted = format!(in rt.alloc(); "{after}")?;
     compare(
         rt,
         name,
@@ -102,18 +117,33 @@ fn compare_update<R: Files + AllocGlobal + Print>(
     )
 }
 
-fn compare_copy<R: Files + AllocGlobal + Print>(rt: &R, name: &str) -> Result<()> {
-    let alloc = rt.alloc();
-    let repo = history_of(rt, &format!(in alloc; "copies/{name}.dump")?, Texts::Sha1)?;
-    let copy = copy_in(rt, &format!(in alloc; "copies/{name}.db")?)?;
-    let untrue = untrue_paths(alloc, &repo, &copy)?;
-    if copy.check_true(&repo).is_ok() != untrue.is_empty() {
+fn compare_update<R: Files + AllocGlobal + Print>(
+    rt: &R,
+    name: &str,
+    repo: &Repo,
+    mut copy: WorkingCopy,
+) -> Result<()> {
+    compare_lines(rt, name, repo, &copy)?;
+    update(rt.alloc(), repo, &mut copy)?;
+    compare_nodes(rt, name, &copy)
+}
+
+// What is untrue of a copy, in lines.
+fn untrue_lines(alloc: Global, name: &str, repo: &Repo, copy: &WorkingCopy) -> Result<String> {
+    let untrue = untrue_paths(alloc, repo, copy)?;
+    if copy.check_true(repo).is_ok() != untrue.is_empty() {
         bail!("{name}: the two tests of truth differ")
     }
-    let found = lines_of(alloc, &untrue)?;
-    let wanted = fs::read(rt, format!(in alloc; "copies/{name}.untrue")?)?;
+    lines_of(alloc, &untrue)
+}
+
+fn compare_copy<R: Files + AllocGlobal + Print>(rt: &R, name: &str) -> Result<()> {
+    let repo = repo_of(rt, name)?;
+    let copy = copy_of(rt, name, "db")?;
+    let found = untrue_lines(rt.alloc(), name, &repo, &copy)?;
+    let wanted = file_of(rt, "copies", name, "untrue")?;
     compare(rt, name, "what is untrue", found.as_bytes(), &wanted)?;
-    if untrue.is_empty() {
+    if found.as_bytes().is_empty() {
         compare_update(rt, name, &repo, copy)?;
     }
     Ok(())

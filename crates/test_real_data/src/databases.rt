@@ -15,13 +15,12 @@ fn push_props(out: &mut String, path: &RelPath, props: &Props) -> Result<()> {
     let alloc = *out.allocator();
     for (name, value) in props {
         let digits = hex::encode(alloc, value.as_slice())?;
-        out.push_str(&format!(in alloc; "{path} prop {name} {digits}\n")?)?;
+        writeln!(out, "{path} prop {name} {digits}")?;
     }
     Ok(())
 }
 
 fn push_node(out: &mut String, path: &RelPath, node: &BaseNode) -> Result<()> {
-    let alloc = *out.allocator();
     match node {
         BaseNode::Dir {
             rev,
@@ -30,7 +29,7 @@ fn push_node(out: &mut String, path: &RelPath, node: &BaseNode) -> Result<()> {
             props,
         } => {
             let end = if *complete { "" } else { " incomplete" };
-            out.push_str(&format!(in alloc; "{path} dir {rev} {repos_path}{end}\n")?)?;
+            writeln!(out, "{path} dir {rev} {repos_path}{end}")?;
             push_props(out, path, props)
         }
         BaseNode::File {
@@ -39,12 +38,12 @@ fn push_node(out: &mut String, path: &RelPath, node: &BaseNode) -> Result<()> {
             text,
             props,
         } => {
-            let digits = hex::encode(alloc, text.as_slice())?;
-            out.push_str(&format!(in alloc; "{path} file {rev} {repos_path} {digits}\n")?)?;
+            let digits = hex::encode(*out.allocator(), text.as_slice())?;
+            writeln!(out, "{path} file {rev} {repos_path} {digits}")?;
             push_props(out, path, props)
         }
         BaseNode::NotPresent => {
-            out.push_str(&format!(in alloc; "{path} not-present\n")?)?;
+            writeln!(out, "{path} not-present")?;
             Ok(())
         }
     }

@@ -7,28 +7,49 @@ mod texts;
 
 use crate::say::say;
 use anyhow::Result;
+use std::alloc::Global;
+
+// What is counted: the cases that differ.
+#[derive(Clone, Copy)]
+enum Count {
+    Written,
+    Taken,
+    Encoded,
+    Refused,
+    RefusedHere,
+    Long,
+}
+
+const COUNTS: [(Count, &str); 6] = [
+    (Count::Written, "a delta that Subversion wrote has its text"),
+    (Count::Taken, "a delta that Subversion takes has its text"),
+    (Count::Encoded, "a whole text is written as Subversion does"),
+    (
+        Count::Refused,
+        "what Subversion refuses is refused by its first fault",
+    ),
+    (
+        Count::RefusedHere,
+        "what it doesn't is refused where it has to be",
+    ),
+    (Count::Long, "a text of three windows is read and written"),
+];
+
+fn wrong_in(alloc: Global, what: Count) -> Result<usize> {
+    match what {
+        Count::Written => texts::decoded_wrongly(alloc, texts::written()),
+        Count::Taken => texts::decoded_wrongly(alloc, texts::taken()),
+        Count::Encoded => texts::encoded_wrongly(alloc),
+        Count::Refused => faults::refused_wrongly(alloc, faults::refused()),
+        Count::RefusedHere => faults::refused_wrongly(alloc, faults::refused_here()),
+        Count::Long => Ok(usize::from(!long::is_same(alloc)?)),
+    }
+}
 
 /// Compares all of it.
 pub(crate) fn run<R: AllocGlobal + Print>(rt: &R) -> Result<()> {
-    let alloc = rt.alloc();
-    let written = texts::decoded_wrongly(alloc, texts::written())?;
-    say(rt, "a delta that Subversion wrote has its text", written)?;
-    let taken = texts::decoded_wrongly(alloc, texts::taken())?;
-    say(rt, "a delta that Subversion takes has its text", taken)?;
-    let encoded = texts::encoded_wrongly(alloc)?;
-    say(rt, "a whole text is written as Subversion does", encoded)?;
-    let refused = faults::refused_wrongly(alloc, faults::refused())?;
-    say(
-        rt,
-        "what Subversion refuses is refused by its first fault",
-        refused,
-    )?;
-    let here = faults::refused_wrongly(alloc, faults::refused_here())?;
-    say(rt, "what it doesn't is refused where it has to be", here)?;
-    let is_same = long::is_same(alloc)?;
-    say(
-        rt,
-        "a text of three windows is read and written",
-        usize::from(!is_same),
-    )
+    for (what, words) in &COUNTS {
+        say(rt, words, wrong_in(rt.alloc(), *what)?)?;
+    }
+    Ok(())
 }

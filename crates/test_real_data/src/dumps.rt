@@ -41,27 +41,19 @@ fn compare<R: Files + AllocGlobal + Print>(
     Ok(())
 }
 
+// How texts are kept, and how the name of the file ends that has the trees with such texts.
+const KEPT: [(Texts, &str); 3] = [
+    (Texts::Sha1, "sha1"),
+    (Texts::Md5, "md5"),
+    (Texts::Whole, "whole"),
+];
+
 fn compare_dump<R: Files + AllocGlobal + Print>(rt: &R, name: &str) -> Result<()> {
     let alloc = rt.alloc();
     let dump = fs::read(rt, format!(in alloc; "dumps/{name}.dump")?)?;
-    compare(
-        rt,
-        name,
-        "sha1",
-        &history::outcome(alloc, &dump, Texts::Sha1)?,
-    )?;
-    compare(
-        rt,
-        name,
-        "md5",
-        &history::outcome(alloc, &dump, Texts::Md5)?,
-    )?;
-    compare(
-        rt,
-        name,
-        "whole",
-        &history::outcome(alloc, &dump, Texts::Whole)?,
-    )?;
+    for (texts, ending) in &KEPT {
+        compare(rt, name, ending, &history::outcome(alloc, &dump, *texts)?)?;
+    }
     compare(rt, name, "lines", &lines::lines(alloc, &dump)?)
 }
 

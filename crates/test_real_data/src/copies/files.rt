@@ -11,6 +11,17 @@ use svn_types::RelPath;
 use svn_wc::WorkingCopy;
 use svn_wcdb::read_base_tree;
 
+/// The bytes of a file.
+pub(crate) fn file_of<R: Files + AllocGlobal>(
+    rt: &R,
+    folder: &str,
+    name: &str,
+    ending: &str,
+) -> Result<Vec<u8>> {
+    let path = format!(in rt.alloc(); "{folder}/{name}.{ending}")?;
+    Ok(fs::read(rt, path)?)
+}
+
 /// The history of a dump.
 pub(crate) fn history_of<R: Files + AllocGlobal>(rt: &R, name: &str, texts: Texts) -> Result<Repo> {
     let alloc = rt.alloc();

@@ -5,13 +5,24 @@
 
 use super::answers::{InMemory, answers_of, refusal_of};
 use super::compare;
-use super::files::history_of;
+use super::files::{file_of, history_of};
 use crate::names::names_of;
 use anyhow::Result;
-use std::fs;
 use std::rt::Files;
 use svn_answers::History;
 use svn_dump::Texts;
+
+fn compare_answers<R: Files + AllocGlobal + Print>(
+    rt: &R,
+    history: History<'_>,
+    copies: &InMemory<'_>,
+    name: &str,
+) -> Result<()> {
+    let (_, lines, notices) = answers_of(rt.alloc(), history, copies, &[name])?;
+    let wanted = file_of(rt, "sparse", name, "checked")?;
+    compare(rt, name, "what is checked", &lines, &wanted)?;
+    compare(rt, name, "what is noticed", &notices, &[])
+}
 
 fn compare_copy<R: Files + AllocGlobal + Print>(
     rt: &R,
@@ -19,16 +30,13 @@ fn compare_copy<R: Files + AllocGlobal + Print>(
     name: &str,
 ) -> Result<()> {
     let alloc = rt.alloc();
-    let database = fs::read(rt, format!(in alloc; "sparse/{name}.db")?)?;
+    let database = file_of(rt, "sparse", name, "db")?;
     let copies = InMemory {
         alloc,
         database: &database,
     };
-    let (_, lines, notices) = answers_of(alloc, history, &copies, &[name])?;
-    let wanted = fs::read(rt, format!(in alloc; "sparse/{name}.checked")?)?;
-    compare(rt, name, "what is checked", &lines, &wanted)?;
-    compare(rt, name, "what is noticed", &notices, &[])?;
-    let wanted = fs::read(rt, format!(in alloc; "sparse/{name}.refused")?)?;
+    compare_answers(rt, history, &copies, name)?;
+    let wanted = file_of(rt, "sparse", name, "refused")?;
     let found = refusal_of(alloc, history, &copies, name)?;
     compare(rt, name, "what is refused", &found, &wanted)
 }

@@ -90,30 +90,26 @@ fn change_each(bytes: &[u8], is_each: bool, bits: u8, whole: &BaseTree) -> Resul
     Ok(tally)
 }
 
-fn print_cuts<R: AllocGlobal + Print>(rt: &R, bytes: &[u8], whole: &BaseTree) -> Result<()> {
-    let alloc = rt.alloc();
-    let tally = cut_in_page(alloc, bytes, whole)?;
-    println!(rt; "{}", tally.line(alloc, "cut in the first page")?)?;
-    let tally = cut_at_pages(alloc, bytes, whole)?;
-    println!(rt; "{}", tally.line(alloc, "cut after a page")?)?;
-    let tally = cut_at_pages(alloc, &uncounted(alloc, bytes)?, whole)?;
-    println!(rt;
-        "{}",
-        tally.line(alloc, "cut after a page, pages not counted")?
-    )?;
+fn print_tally<R: AllocGlobal + Print>(rt: &R, tally: &Tally, what: &str) -> Result<()> {
+    println!(rt; "{}", tally.line(rt.alloc(), what)?)?;
     Ok(())
 }
 
-fn print_changes<R: AllocGlobal + Print>(rt: &R, bytes: &[u8], whole: &BaseTree) -> Result<()> {
+fn print_cuts<R: AllocGlobal + Print>(rt: &R, bytes: &[u8], whole: &BaseTree) -> Result<()> {
     let alloc = rt.alloc();
+    let tally = cut_in_page(alloc, bytes, whole)?;
+    print_tally(rt, &tally, "cut in the first page")?;
+    let tally = cut_at_pages(alloc, bytes, whole)?;
+    print_tally(rt, &tally, "cut after a page")?;
+    let tally = cut_at_pages(alloc, &uncounted(alloc, bytes)?, whole)?;
+    print_tally(rt, &tally, "cut after a page, pages not counted")
+}
+
+fn print_changes<R: AllocGlobal + Print>(rt: &R, bytes: &[u8], whole: &BaseTree) -> Result<()> {
     let tally = change_each(bytes, false, 1, whole)?;
-    println!(rt;
-        "{}",
-        tally.line(alloc, "one bit of each 8th byte changed")?
-    )?;
+    print_tally(rt, &tally, "one bit of each 8th byte changed")?;
     let tally = change_each(bytes, true, 255, whole)?;
-    println!(rt; "{}", tally.line(alloc, "all bits of each byte changed")?)?;
-    Ok(())
+    print_tally(rt, &tally, "all bits of each byte changed")
 }
 
 /// Prints how often each reason comes where the database is cut and where a byte is changed.
