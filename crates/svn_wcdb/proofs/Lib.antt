@@ -11,7 +11,8 @@ pub mod ChainLemmas
 pub mod TreeLemmas
 -- rows of PRISTINE
 pub mod PristineLemmas
--- rows of NODES
+-- rows of NODES, and what they leave out
 pub mod NodeLemmas
+pub mod LeftOutLemmas
 -- Atoms by the number of their bytes.
 pub mod SizedAtoms

@@ -3,7 +3,7 @@
 --     sparse_at folder row      a directory that isn't whole, with its depth, if that is the row
 --     left_out_of folder rows      all of them by their paths, and how many entries the user and the server excluded
 --     left_out_in takes folder bytes      of a database: nothing where sparse copies aren't taken
-use Rattle.std.specs.Prelude.{ℕ, Bool, false, not, ◌&&◌, ◌||◌, List, [], length, filter, filter_map, fold, bytes_eq, codes, Option, Some, None, is_some, option_map, Result, Ok, Err, if◌then◌else◌}
+use Rattle.std.specs.Prelude.{ℕ, ◌+◌, min, Bool, false, not, ◌&&◌, ◌||◌, List, [], length, filter, filter_map, fold, bytes_eq, codes, Option, Some, None, is_some, option_map, Result, Ok, Err, if◌then◌else◌}
 use Rattle.std.specs.BTreeMap.{insert_entry}
 use Rattle.svn_types.specs.Names.{Path, path_cmp}
 use Rattle.svn_types.specs.PathTexts.{path_text}
@@ -123,6 +123,34 @@ nothing_left_out = record { depths = []; excluded = 0; withheld = 0 }
 abbrev pub left_out_of : List ℕ → List TableRow → LeftOut
 left_out_of folder rows =
     record { depths = depths_of folder rows; excluded = count_of is_excluded folder rows; withheld = count_of is_withheld folder rows }
+
+-- ---- row by row
+
+abbrev pub with_entry : Depths → Option (Path × Depth) → Depths
+with_entry depths None = depths
+with_entry depths (Some entry) = with_depth depths entry
+
+-- one more if it is so, of at most 18446744073709551615
+abbrev pub counted_if : Bool → ℕ → ℕ
+counted_if so n = if so then min (n + 1) 18446744073709551615 else n
+
+-- with what a row of the base tree leaves out
+abbrev pub left_out_with : List ℕ → Option NodeRow → LeftOut → LeftOut
+left_out_with folder row l =
+    record {
+      depths = with_entry l.depths (sparse_row folder row);
+      excluded = counted_if (has_presence is_excluded row) l.excluded;
+      withheld = counted_if (has_presence is_withheld row) l.withheld;
+    }
+
+-- of a row at the folder or below
+abbrev pub left_out_by_record : Takes → List ℕ → TableRow → LeftOut → LeftOut
+left_out_by_record Whole folder row l = l
+left_out_by_record Sparse folder row l = left_out_with folder (base_columns (row_of row.bytes)) l
+
+-- of any
+abbrev pub left_out_after : Takes → List ℕ → LeftOut → TableRow → LeftOut
+left_out_after takes folder l row = if is_in folder (path_at row.bytes) then left_out_by_record takes folder row l else l
 
 -- ---- of a database
 

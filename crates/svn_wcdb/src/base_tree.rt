@@ -1,21 +1,20 @@
 //! The base tree of a working copy: where it comes from, and its nodes.
-ghost use Rattle.std.specs.Prelude.{◌≡◌, IfOk, Ok};
+ghost use Rattle.std.specs.Prelude.{◌≡◌, IfOk};
 ghost use Rattle.svn_wcdb.specs.Bases.{seen_base, base_tree_of, base_tree_at, base_tree_in};
-ghost use Rattle.svn_wcdb.specs.Reading.{Finds, Gives};
-ghost use Rattle.svn_wcdb.specs.Sparse.{seen_left_out, left_out_by, left_out_in};
+ghost use Rattle.svn_wcdb.specs.Reading.{Finds};
+ghost use Rattle.svn_wcdb.specs.Sparse.{seen_left_out, left_out_in};
 
 use crate::depth::Takes;
-use crate::fault::{TableName, WcdbFault};
+use crate::fault::TableName;
 use crate::image::read_image;
-use crate::left_out::{LeftOut, read_left_out};
-use crate::nodes::{References, read_nodes};
+use crate::left_out::LeftOut;
+use crate::nodes::{References, Taken, read_nodes};
 use crate::notes::{Notes, read_notes};
 use crate::origin::{one_root, origin_in, repos_in};
 use crate::paths::folder_text;
 use crate::pristines::{Pristines, read_pristines};
 use crate::refusal::Refusal;
 use crate::schema::rows_of;
-use crate::table::TableRow;
 use crate::tree::read_table;
 use std::alloc::Global;
 use svn_model::BaseNode;
@@ -82,21 +81,6 @@ pub struct ReadTree {
     pub left_out: LeftOut,
 }
 
-// What the rows of NODES leave out, where sparse copies are taken.
-fn left_out_of(
-    alloc: Global,
-    takes: Takes,
-    folder: &[u8],
-    rows: &[TableRow],
-) -> Result<LeftOut, WcdbFault>
-    ensures { Gives seen_left_out result (Ok (left_out_by takes folder.now rows.now)) }
-{
-    match takes {
-        Takes::Whole => Ok(LeftOut::nothing(alloc)),
-        Takes::Sparse => read_left_out(alloc, folder, rows),
-    }
-}
-
 /// Reads a base tree as [`read_base_tree_at`] does, and with [`Takes::Sparse`] that of a sparse copy too: a directory of depth `empty`, `files` or
 /// `immediates` is one as others, and an entry that the user excluded or the server withholds is not present. What is left out is returned beside it.
 /// Then Excluded and ServerExcluded don't come, and Depth only for another depth.
@@ -129,9 +113,9 @@ pub fn read_tree(
         pristines: &pristines,
         takes,
     };
-    let found = read_nodes(alloc, &to, &rows)?;
-    let notes = read_notes(alloc, &image, &schema, &to, &found)?;
-    let left_out = left_out_of(alloc, takes, folder, &rows)?;
+    let taken = read_nodes(alloc, &to, &rows)?;
+    let notes = read_notes(alloc, &image, &schema, &to, &taken.found)?;
+    let Taken { found, left_out } = taken;
     Ok(ReadTree {
         tree: BaseTree {
             origin,

@@ -1,18 +1,16 @@
 //! What a sparse copy leaves out, from the rows of NODES.
-ghost use Rattle.std.specs.Prelude.{◌≡◌, Ok, option_map};
+ghost use Rattle.std.specs.Prelude.{◌≡◌, Ok};
 ghost use Rattle.std.specs.Option.{option_copied};
 ghost use Rattle.svn_wcdb.specs.Nodes.{seen};
 ghost use Rattle.svn_wcdb.specs.Reading.{Gives};
-ghost use Rattle.svn_wcdb.specs.Sparse.{base_in, count_of, depths_of, has_presence, is_excluded, is_withheld, left_out_of, nothing_left_out, seen_left_out, sparse_at, with_path};
+ghost use Rattle.svn_wcdb.specs.Sparse.{base_columns, counted_if, depth_of, is_excluded, is_withheld, left_out_with, nothing_left_out, seen_left_out, sparse_in, with_entry, with_path};
 
 use crate::columns::is_number;
 use crate::depth::{Depth, depth_of, is_excluded, is_withheld};
 use crate::fault::WcdbFault;
 use crate::locks::path_in;
 use crate::paths::place_in;
-use crate::place::is_in;
 use crate::row::Row;
-use crate::table::TableRow;
 use std::alloc::Global;
 use std::collections::BTreeMap;
 use svn_types::RelPath;
@@ -41,20 +39,6 @@ impl LeftOut {
     }
 }
 
-// A row of the base tree at the folder or below, unless it is a file of `svn:externals`.
-fn base_in<'a>(folder: &[u8], row: &'a TableRow) -> Option<Row<'a>>
-    ensures { option_map seen result ≡ base_in folder.now row.now }
-{
-    let bytes = row.bytes.as_slice();
-    if !is_in(folder, bytes) {
-        return None;
-    }
-    match Row::read(bytes) {
-        Ok(row) if is_number(row.op_depth, 0) && !row.is_external => Some(row),
-        _ => None,
-    }
-}
-
 fn with_path(
     alloc: Global,
     folder: &[u8],
@@ -70,85 +54,46 @@ fn with_path(
 }
 
 // A directory that isn't whole, if that is the row.
-fn sparse_at(
-    alloc: Global,
-    folder: &[u8],
-    row: &TableRow,
-) -> Result<Option<(RelPath, Depth)>, WcdbFault>
-    ensures { Gives (λ entry. entry) result (Ok (sparse_at folder.now row.now)) }
+fn sparse_in(alloc: Global, folder: &[u8], row: &Row) -> Result<Option<(RelPath, Depth)>, WcdbFault>
+    ensures { Gives (λ entry. entry) result (Ok (sparse_in folder.now (seen row.now) (depth_of (seen row.now)))) }
 {
-    let Some(row) = base_in(folder, row) else {
-        return Ok(None);
-    };
-    match depth_of(&row) {
-        Some(depth) => with_path(alloc, folder, &row, depth),
+    match depth_of(row) {
+        Some(depth) => with_path(alloc, folder, row, depth),
         None => Ok(None),
     }
 }
 
-fn read_depths(
-    alloc: Global,
-    folder: &[u8],
-    rows: &[TableRow],
-) -> Result<BTreeMap<RelPath, Depth>, WcdbFault>
-    ensures { Gives (λ depths. depths.entries) result (Ok (depths_of folder.now rows.now)) }
+fn counted_if(so: bool, number: u64) -> u64
+    ensures { result ≡ counted_if so number }
 {
-    let mut depths = BTreeMap::new(alloc);
-    let mut rest = rows;
-    'rows: while let Some((row, after)) = rest.split_first() {
-        if let Some((path, depth)) = sparse_at(alloc, folder, row)? {
-            depths.insert(path, depth)?;
+    if so { number.saturating_add(1) } else { number }
+}
+
+impl LeftOut {
+    fn add_directory(&mut self, alloc: Global, folder: &[u8], row: &Row) -> Result<(), WcdbFault>
+        ensures { Gives (λ _. seen_left_out self.new) result (Ok (record (seen_left_out self.old) { depths = with_entry self.old.depths.entries (sparse_in folder.now (seen row.now) (depth_of (seen row.now))) })) }
+    {
+        if let Some((path, depth)) = sparse_in(alloc, folder, row)? {
+            self.depths.insert(path, depth)?;
         }
-        rest = after;
+        Ok(())
     }
-    Ok(depths)
-}
 
-fn is_excluded_row(folder: &[u8], row: &TableRow) -> bool
-    ensures { result ≡ has_presence is_excluded (base_in folder.now row.now) }
-{
-    match base_in(folder, row) {
-        Some(row) => is_excluded(row.presence),
-        None => false,
+    fn count(&mut self, presence: Option<&[u8]>)
+        ensures { seen_left_out self.new ≡ record (seen_left_out self.old) { excluded = counted_if (is_excluded (option_copied presence.entry)) self.old.excluded; withheld = counted_if (is_withheld (option_copied presence.entry)) self.old.withheld } }
+    {
+        self.excluded = counted_if(is_excluded(presence), self.excluded);
+        self.withheld = counted_if(is_withheld(presence), self.withheld);
     }
-}
 
-fn is_withheld_row(folder: &[u8], row: &TableRow) -> bool
-    ensures { result ≡ has_presence is_withheld (base_in folder.now row.now) }
-{
-    match base_in(folder, row) {
-        Some(row) => is_withheld(row.presence),
-        None => false,
+    /// Adds what a row at the folder or below leaves out, if it is one of the base tree and no file of `svn:externals`.
+    pub(crate) fn add(&mut self, alloc: Global, folder: &[u8], row: &Row) -> Result<(), WcdbFault>
+        ensures { Gives (λ _. seen_left_out self.new) result (Ok (left_out_with folder.now (base_columns (Ok (seen row.now))) (seen_left_out self.old))) }
+    {
+        if !is_number(row.op_depth, 0) || row.is_external {
+            return Ok(());
+        }
+        self.count(row.presence);
+        self.add_directory(alloc, folder, row)
     }
-}
-
-fn count_excluded(folder: &[u8], rows: &[TableRow]) -> usize
-    ensures { result ≡ count_of is_excluded folder.now rows.now }
-{
-    rows.iter()
-        .filter(|row| is_excluded_row(folder, row))
-        .count()
-}
-
-fn count_withheld(folder: &[u8], rows: &[TableRow]) -> usize
-    ensures { result ≡ count_of is_withheld folder.now rows.now }
-{
-    rows.iter()
-        .filter(|row| is_withheld_row(folder, row))
-        .count()
-}
-
-/// What the rows at the folder and below leave out.
-pub(crate) fn read_left_out(
-    alloc: Global,
-    folder: &[u8],
-    rows: &[TableRow],
-) -> Result<LeftOut, WcdbFault>
-    ensures { Gives seen_left_out result (Ok (left_out_of folder.now rows.now)) }
-{
-    Ok(LeftOut {
-        depths: read_depths(alloc, folder, rows)?,
-        excluded: count_excluded(folder, rows) as u64,
-        withheld: count_withheld(folder, rows) as u64,
-    })
 }

@@ -1,12 +1,14 @@
 //! The base nodes of a working copy, from the rows of NODES.
-ghost use Rattle.std.specs.Prelude.{◌≡◌};
+ghost use Rattle.std.specs.Prelude.{◌≡◌, IfOk, OnOk};
 ghost use Rattle.svn_wcdb.specs.Bases.{seen_references, seen_found, none_yet, path_from, one_node, node_after, record_in, placed_in};
 ghost use Rattle.svn_wcdb.specs.Nodes.{seen};
 ghost use Rattle.svn_wcdb.specs.Reading.{Gives, Finds, each};
+ghost use Rattle.svn_wcdb.specs.Sparse.{left_out_after, left_out_by, left_out_by_record, seen_left_out};
 
 use crate::columns::{is_number, path_at};
 use crate::depth::{Takes, as_whole};
 use crate::fault::{Reason, TableName, WcdbFault};
+use crate::left_out::LeftOut;
 use crate::node::base_node;
 use crate::notes::Notes;
 use crate::paths::{is_parent, place_in, read_path, text_from};
@@ -39,6 +41,13 @@ pub(crate) struct References<'a> {
 pub(crate) struct Found {
     pub(crate) nodes: Vec<(RelPath, BaseNode)>,
     pub(crate) notes: Notes,
+}
+
+/// What was found so far, and what is left out, where sparse copies are taken.
+#[derive(Debug, Drop)]
+pub(crate) struct Taken {
+    pub(crate) found: Found,
+    pub(crate) left_out: LeftOut,
 }
 
 // The path in the folder of a row, which names the path above as its parent.
@@ -97,14 +106,18 @@ fn take_record(
     alloc: Global,
     to: &References,
     table_row: &TableRow,
-    found: &mut Found,
+    taken: &mut Taken,
 ) -> Result<(), WcdbFault>
-    ensures { Gives (λ _. seen_found found.new) result (record_in to.now.takes (seen_references to.now) table_row.now (seen_found found.old)) }
+    ensures found { Gives (λ _. seen_found taken.new.found) result (record_in to.now.takes (seen_references to.now) table_row.now (seen_found taken.old.found)) }
+    ensures left_out { OnOk result (seen_left_out taken.new.left_out ≡ left_out_by_record to.now.takes to.now.folder.now table_row.now (seen_left_out taken.old.left_out)) }
 {
     let row = Row::read(table_row.bytes.as_slice())?;
     match to.takes {
-        Takes::Whole => take_row(alloc, to, &row, found),
-        Takes::Sparse => take_row(alloc, to, &as_whole(&row), found),
+        Takes::Whole => take_row(alloc, to, &row, &mut taken.found),
+        Takes::Sparse => {
+            take_row(alloc, to, &as_whole(&row), &mut taken.found)?;
+            taken.left_out.add(alloc, to.folder, &row)
+        }
     }
 }
 
@@ -114,15 +127,16 @@ fn take_placed(
     alloc: Global,
     to: &References,
     row: &TableRow,
-    found: &mut Found,
+    taken: &mut Taken,
 ) -> Result<(), Refusal>
-    ensures { Finds (λ _. seen_found found.new) result (placed_in to.now.takes (seen_references to.now) row.now (seen_found found.old)) }
+    ensures found { Finds (λ _. seen_found taken.new.found) result (placed_in to.now.takes (seen_references to.now) row.now (seen_found taken.old.found)) }
+    ensures left_out { OnOk result (seen_left_out taken.new.left_out ≡ left_out_after to.now.takes to.now.folder.now (seen_left_out taken.old.left_out) row.now) }
 {
     let bytes = row.bytes.as_slice();
     if !is_in(to.folder, bytes) {
         return Ok(());
     }
-    match take_record(alloc, to, row, found) {
+    match take_record(alloc, to, row, taken) {
         Ok(()) => Ok(()),
         Err(WcdbFault::Refused(reason)) => {
             let place = place_in(to.folder, path_at(bytes));
@@ -132,22 +146,27 @@ fn take_placed(
     }
 }
 
-/// Reads the base nodes of that working copy root and repository, at the folder and below. A refusal has the path of its row from there.
+/// Reads the base nodes of that working copy root and repository, at the folder and below, and what is left out there. A refusal has the path of its row
+/// from there. Each row is decoded once, but for its path, if the folder isn't the root.
 pub(crate) fn read_nodes(
     alloc: Global,
     to: &References,
     rows: &[TableRow],
-) -> Result<Found, Refusal>
-    ensures { Finds seen_found result (each (placed_in to.now.takes (seen_references to.now)) rows.now none_yet) }
+) -> Result<Taken, Refusal>
+    ensures found { Finds (λ taken. seen_found taken.found) result (each (placed_in to.now.takes (seen_references to.now)) rows.now none_yet) }
+    ensures left_out { IfOk result (λ taken. seen_left_out taken.left_out ≡ left_out_by to.now.takes to.now.folder.now rows.now) }
 {
-    let mut found = Found {
-        nodes: Vec::new(alloc),
-        notes: Notes::new(),
+    let mut taken = Taken {
+        found: Found {
+            nodes: Vec::new(alloc),
+            notes: Notes::new(),
+        },
+        left_out: LeftOut::nothing(alloc),
     };
     let mut rest = rows;
     'rows: while let Some((row, after)) = rest.split_first() {
-        take_placed(alloc, to, row, &mut found)?;
+        take_placed(alloc, to, row, &mut taken)?;
         rest = after;
     }
-    Ok(found)
+    Ok(taken)
 }
