@@ -131,11 +131,45 @@ done
 echo "== copies within a copy"
 svn -q checkout "$gone/t@3" plain/other
 svn -q checkout "file://$PWD/repo/trunk/library" plain/library/inner
-"$SVNAUDIT" check dump plain >got 2>&1
-printf '%s\n' 'svnaudit: plain: library/inner is a working copy of its own' 'svnaudit: plain: other is a working copy of its own' >wanted
-grep 'of its own' got | LC_ALL=C sort >notes
+"$SVNAUDIT" check dump plain >got 2>notes
+printf '%s\n' 'svnaudit: plain: working copies of their own are in it: other, library/inner' >wanted
 same "copies within a copy" wanted notes
 rm -rf plain/other plain/library/inner
+# more than are named
+for number in 1 2 3 4 5 6 7; do svn -q checkout "$gone/t@3" plain/library/inner$number; done
+"$SVNAUDIT" check dump plain 2>&1 >out | sed 's/inner[1-7]/inner/g' >notes
+printf '%s\n' "svnaudit: plain: working copies of their own are in it: $(printf 'library/inner, %.0s' 1 2 3 4)library/inner and 2 more" >wanted
+same "seven copies within a copy" wanted notes
+rm -rf plain/library/inner?
+
+echo "== externals, also of another repository, and files"
+svnadmin hotcopy -q repo externals.repo; outer=file://$PWD/externals.repo
+svn -q checkout "$outer/trunk" externals
+svn -q propset svn:externals "^/trunk/library within
+^/trunk/library deep/er
+^/trunk/library/uno one
+$gone/s foreign" externals
+svn -q commit -m externals externals; svn -q update externals; svnadmin dump -q externals.repo >externals.dump
+# each folder has a database of its own, and the copy's has no other row of the base tree than the file
+sqlite3 externals/.svn/wc.db "select local_relpath from nodes where op_depth = 0 and (file_external is not null or repos_id <> (select repos_id from nodes where local_relpath = ''))" >got
+printf '%s\n' one >wanted
+same "rows of externals" wanted got
+"$SVNAUDIT" check externals.dump externals externals/within externals/deep/er >got 2>notes
+count=$(sqlite3 externals/.svn/wc.db "select count(*) from nodes where op_depth = 0 and file_external is null"); rev=$(svnlook youngest externals.repo)
+within=$(sqlite3 externals/within/.svn/wc.db "select count(*) from nodes")
+printf '%s\n' "externals: true: $count nodes, r$rev" "externals/within: true: $within nodes, r$rev" "externals/deep/er: true: $within nodes, r$rev" >wanted
+same "copies with externals" wanted got
+grep ' externals: ' notes | sed 's/: foreign, within$/: within, foreign/' >got
+printf 'svnaudit: externals: %s\n' 'each folder that svn:externals bring is a working copy of its own; they are at: .' \
+    'working copies of their own are in it: within, foreign' 'passed over: 1 file external' >wanted
+same "notes of externals" wanted got
+refused "a copy of another repository" "svnaudit: externals/foreign: the working copy is of repository $(svnlook uuid gone.repo), not of $(svnlook uuid externals.repo)" \
+    "$SVNAUDIT" check externals.dump externals/foreign
+"$SVNAUDIT" check gone.dump externals/foreign >got 2>notes
+printf '%s\n' "externals/foreign: true: 2 nodes, r$(svnlook youngest gone.repo)" >wanted
+same "a copy of another repository with its dump" wanted got
+# a client doesn't write rows of another repository at the copy's own depth
+svn switch -q --ignore-ancestry "$gone/s" externals/library >out 2>&1 && { wrong=$((wrong + 1)); echo "SVN SWITCHES TO ANOTHER REPOSITORY"; }
 
 echo "== ${RANDOM_COPIES:=40} copies at random"
 RANDOM=1
