@@ -132,7 +132,7 @@ echo "== copies within a copy"
 svn -q checkout "$gone/t@3" plain/other
 svn -q checkout "file://$PWD/repo/trunk/library" plain/library/inner
 "$SVNAUDIT" check dump plain >got 2>notes
-printf '%s\n' 'svnaudit: plain: working copies of their own are in it: other, library/inner' >wanted
+printf '%s\n' 'svnaudit: plain: working copies of their own are in it: library/inner, other' >wanted
 same "copies within a copy" wanted notes
 rm -rf plain/other plain/library/inner
 # more than are named
@@ -147,9 +147,9 @@ svnadmin hotcopy -q repo externals.repo; outer=file://$PWD/externals.repo
 svn -q checkout "$outer/trunk" externals
 svn -q propset svn:externals "^/trunk/library within
 ^/trunk/library deep/er
-^/trunk/library/uno one
+^/trunk/library/one one
 $gone/s foreign" externals
-svn -q commit -m externals externals; svn -q update externals; svnadmin dump -q externals.repo >externals.dump
+svn -q commit -m "its externals" externals; svn -q update externals; svnadmin dump -q externals.repo >externals.dump
 # each folder has a database of its own, and the copy's has no other row of the base tree than the file
 sqlite3 externals/.svn/wc.db "select local_relpath from nodes where op_depth = 0 and (file_external is not null or repos_id <> (select repos_id from nodes where local_relpath = ''))" >got
 printf '%s\n' one >wanted
@@ -159,9 +159,9 @@ count=$(sqlite3 externals/.svn/wc.db "select count(*) from nodes where op_depth 
 within=$(sqlite3 externals/within/.svn/wc.db "select count(*) from nodes")
 printf '%s\n' "externals: true: $count nodes, r$rev" "externals/within: true: $within nodes, r$rev" "externals/deep/er: true: $within nodes, r$rev" >wanted
 same "copies with externals" wanted got
-grep ' externals: ' notes | sed 's/: foreign, within$/: within, foreign/' >got
+grep ' externals: ' notes >got
 printf 'svnaudit: externals: %s\n' 'each folder that svn:externals bring is a working copy of its own; they are at: .' \
-    'working copies of their own are in it: within, foreign' 'passed over: 1 file external' >wanted
+    'working copies of their own are in it: foreign, within' 'passed over: 1 file external' >wanted
 same "notes of externals" wanted got
 refused "a copy of another repository" "svnaudit: externals/foreign: the working copy is of repository $(svnlook uuid gone.repo), not of $(svnlook uuid externals.repo)" \
     "$SVNAUDIT" check externals.dump externals/foreign

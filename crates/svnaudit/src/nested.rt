@@ -19,11 +19,7 @@ use svn_wcdb::BaseTree;
 type FileNames<'a> = BTreeMap<RelPath, Vec<&'a str>>;
 
 // Adds the name of a file.
-fn add_name<'a>(
-    alloc: Global,
-    names: &mut FileNames<'a>,
-    path: &'a RelPath,
-) -> Result<(), Fault> {
+fn add_name<'a>(alloc: Global, names: &mut FileNames<'a>, path: &'a RelPath) -> Result<(), Fault> {
     let (Some(directory), Some(name)) = (path.parent(alloc)?, path.last_name()) else {
         return Ok(());
     };
@@ -78,7 +74,9 @@ fn add_nested_in<T: Files + AllocGlobal + Clone + Drop>(
 ) -> Result<(), Fault> {
     let alloc = rt.alloc();
     let path = place.path;
-    let directory = place.folder.working_file(alloc, &format!(in alloc; "{path}")?)?;
+    let directory = place
+        .folder
+        .working_file(alloc, &format!(in alloc; "{path}")?)?;
     let Some(entries) = or_none(fs::read_dir(rt, &directory))? else {
         return Ok(());
     };
@@ -87,7 +85,9 @@ fn add_nested_in<T: Files + AllocGlobal + Clone + Drop>(
             return Ok(());
         };
         let name = entry.file_name();
-        if place.files.binary_search(&name).is_err() && is_copy(rt, &directory.join(alloc, name)?)? {
+        if place.files.binary_search(&name).is_err()
+            && is_copy(rt, &directory.join(alloc, name)?)?
+        {
             let place = format!(in alloc; "{path}/{name}")?;
             nested.add(place.trim_start_matches("./"))?;
         }
@@ -117,6 +117,7 @@ fn nested_of<T: Files + AllocGlobal + Clone + Drop>(
             add_nested_in(rt, &place, &mut nested)?;
         }
     }
+    nested.sort();
     Ok(nested)
 }
 
@@ -158,6 +159,7 @@ pub(crate) fn tell_externals<T: Eprint + AllocGlobal>(
             directories.add(&format!(in alloc; "{path}")?)?;
         }
     }
+    directories.sort();
     if !directories.is_empty() {
         let name = Source(name);
         let _ = eprintln!(rt;

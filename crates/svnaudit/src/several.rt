@@ -30,13 +30,18 @@ impl Several {
         Ok(())
     }
 
+    /// Brings them into byte order.
+    pub(crate) fn sort(&mut self) {
+        self.places.sort_unstable();
+    }
+
     /// Whether there is none.
     pub(crate) fn is_empty(&self) -> bool {
         self.places.is_empty()
     }
 }
 
-/// The first five in the order of the rows, and how many more there are: `a, b, c, d, e and 12 more`.
+/// The first five, and how many more there are: `a, b, c, d, e and 12 more`.
 impl fmt::Display for Several {
     fn fmt<W: fmt::Write>(&self, f: &mut fmt::Formatter<W>) -> fmt::Result {
         let mut before = "";

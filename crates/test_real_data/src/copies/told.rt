@@ -31,11 +31,46 @@ const ROWS: [Row; 11] = [
     ("later", "later", "later", "", false, None),
     ("mirror", "mirror", "late", "", true, None),
     ("other_uuid", "mirror", "late", "", false, None),
-    ("gone_update", "gone", "gone", "d", false, Some(Topic::Update(None))),
-    ("gone_calls", "gone", "gone", "d", false, Some(Topic::Calls(None))),
-    ("gone_nodes", "gone", "gone", "d", false, Some(Topic::Nodes(None))),
-    ("gone_switched", "gone", "gone", "s", false, Some(Topic::Update(None))),
-    ("gone_whole", "gone", "gone_whole", "", false, Some(Topic::Nodes(None))),
+    (
+        "gone_update",
+        "gone",
+        "gone",
+        "d",
+        false,
+        Some(Topic::Update(None)),
+    ),
+    (
+        "gone_calls",
+        "gone",
+        "gone",
+        "d",
+        false,
+        Some(Topic::Calls(None)),
+    ),
+    (
+        "gone_nodes",
+        "gone",
+        "gone",
+        "d",
+        false,
+        Some(Topic::Nodes(None)),
+    ),
+    (
+        "gone_switched",
+        "gone",
+        "gone",
+        "s",
+        false,
+        Some(Topic::Update(None)),
+    ),
+    (
+        "gone_whole",
+        "gone",
+        "gone_whole",
+        "",
+        false,
+        Some(Topic::Nodes(None)),
+    ),
 ];
 
 /// The bytes of files and of their pristine texts.
@@ -106,7 +141,10 @@ fn compare_files<R: AllocGlobal + Print>(rt: &R) -> Result<()> {
             bail!("a file of {} bytes", file.len())
         }
     }
-    println!(rt; "files and their pristine texts: {} pairs as expected", FILES.len())?;
+    println!(rt;
+        "files and their pristine texts: {} pairs as expected",
+        FILES.len()
+    )?;
     Ok(())
 }
 
