@@ -10,7 +10,7 @@
 . "$here/dump_history.sh"
 . "$here/false_copies.sh"
 . "$here/sparse_copies.sh"
-needs svnserve sqlite3 python3
+needs svnserve svnrdump sqlite3 python3
 needs_built svnaudit
 
 # what the client says is kept, and the server stops after as many bytes as are in `cut_after`, by killing the client
@@ -291,6 +291,19 @@ done
 printf '%s\n' 'grown/d/s: true: 2 nodes, r3' 'grown/e: true: 3 nodes, r3, 1 directory sparse' 'excluded/d: true: 7 nodes, r2, 1 entry excluded' \
     'mixed_depths/d: true: 4 nodes, r3, 1 directory sparse' >wanted
 same 'folders of sparse copies' wanted got
+
+echo "== packed dumps, and svnrdump's of a text of over a mebibyte"
+gzip -c dump >dump.gz
+refused 'a packed dump' 'svnaudit: dump.gz: this is packed by gzip: unpack it first' "$SVNAUDIT" check dump.gz odd
+svnadmin create big.repo; svn -q checkout "file://$PWD/big.repo" big
+head -c 1500000 /dev/zero >big/f; svn -q add big/f; svn -q commit -m one big; svn -q update big; svnrdump dump -q "file://$PWD/big.repo" >big.dump
+# (each refusal but the last says what to try)
+offset=$(grep -abo '^Node-path: f' big.dump | cut -d: -f1) length=$(grep -a '^Text-content-length: ' big.dump | cut -d' ' -f2)
+refused 'a text that is too long' "svnaudit: big.dump: byte $offset: r1 f: text of $length bytes, the most is 1048576 (try --texts sha1)" "$SVNAUDIT" check big.dump big --texts whole
+refused 'a text without its SHA-1 checksum' "svnaudit: big.dump: byte $offset: r1 f: a text delta without the SHA-1 checksum of its text (try --texts md5)" "$SVNAUDIT" check big.dump big
+"$SVNAUDIT" check big.dump big --texts md5 >got 2>&1
+echo 'big: true: 2 nodes, r1' >wanted
+same 'a text by MD5' wanted got
 
 echo "== refusals"
 refused 'no copy' "svnaudit: repo: no working copy" "$SVNAUDIT" check dump repo
