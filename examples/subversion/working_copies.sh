@@ -10,7 +10,7 @@
 . "$here/dump_history.sh"
 . "$here/false_copies.sh"
 . "$here/sparse_copies.sh"
-needs svnserve sqlite3 python3
+needs svnserve svnrdump sqlite3 python3
 needs_built svnaudit
 
 # what the client says is kept, and the server stops after as many bytes as are in `cut_after`, by killing the client
@@ -131,11 +131,45 @@ done
 echo "== copies within a copy"
 svn -q checkout "$gone/t@3" plain/other
 svn -q checkout "file://$PWD/repo/trunk/library" plain/library/inner
-"$SVNAUDIT" check dump plain >got 2>&1
-printf '%s\n' 'svnaudit: plain: library/inner is a working copy of its own' 'svnaudit: plain: other is a working copy of its own' >wanted
-grep 'of its own' got | LC_ALL=C sort >notes
+"$SVNAUDIT" check dump plain >got 2>notes
+printf '%s\n' 'svnaudit: plain: working copies of their own are in it: library/inner, other' >wanted
 same "copies within a copy" wanted notes
 rm -rf plain/other plain/library/inner
+# more than are named
+for number in 1 2 3 4 5 6 7; do svn -q checkout "$gone/t@3" plain/library/inner$number; done
+"$SVNAUDIT" check dump plain 2>&1 >out | sed 's/inner[1-7]/inner/g' >notes
+printf '%s\n' "svnaudit: plain: working copies of their own are in it: $(printf 'library/inner, %.0s' 1 2 3 4)library/inner and 2 more" >wanted
+same "seven copies within a copy" wanted notes
+rm -rf plain/library/inner?
+
+echo "== externals, also of another repository, and files"
+svnadmin hotcopy -q repo externals.repo; outer=file://$PWD/externals.repo
+svn -q checkout "$outer/trunk" externals
+svn -q propset svn:externals "^/trunk/library within
+^/trunk/library deep/er
+^/trunk/library/one one
+$gone/s foreign" externals
+svn -q commit -m "its externals" externals; svn -q update externals; svnadmin dump -q externals.repo >externals.dump
+# each folder has a database of its own, and the copy's has no other row of the base tree than the file
+sqlite3 externals/.svn/wc.db "select local_relpath from nodes where op_depth = 0 and (file_external is not null or repos_id <> (select repos_id from nodes where local_relpath = ''))" >got
+printf '%s\n' one >wanted
+same "rows of externals" wanted got
+"$SVNAUDIT" check externals.dump externals externals/within externals/deep/er >got 2>notes
+count=$(sqlite3 externals/.svn/wc.db "select count(*) from nodes where op_depth = 0 and file_external is null"); rev=$(svnlook youngest externals.repo)
+within=$(sqlite3 externals/within/.svn/wc.db "select count(*) from nodes")
+printf '%s\n' "externals: true: $count nodes, r$rev" "externals/within: true: $within nodes, r$rev" "externals/deep/er: true: $within nodes, r$rev" >wanted
+same "copies with externals" wanted got
+grep ' externals: ' notes >got
+printf 'svnaudit: externals: %s\n' 'each folder that svn:externals bring is a working copy of its own; they are at: .' \
+    'working copies of their own are in it: foreign, within' 'passed over: 1 file external' >wanted
+same "notes of externals" wanted got
+refused "a copy of another repository" "svnaudit: externals/foreign: the working copy is of repository $(svnlook uuid gone.repo), not of $(svnlook uuid externals.repo)" \
+    "$SVNAUDIT" check externals.dump externals/foreign
+"$SVNAUDIT" check gone.dump externals/foreign >got 2>notes
+printf '%s\n' "externals/foreign: true: 2 nodes, r$(svnlook youngest gone.repo)" >wanted
+same "a copy of another repository with its dump" wanted got
+# a client doesn't write rows of another repository at the copy's own depth
+svn switch -q --ignore-ancestry "$gone/s" externals/library >out 2>&1 && { wrong=$((wrong + 1)); echo "SVN SWITCHES TO ANOTHER REPOSITORY"; }
 
 echo "== ${RANDOM_COPIES:=40} copies at random"
 RANDOM=1
@@ -257,6 +291,19 @@ done
 printf '%s\n' 'grown/d/s: true: 2 nodes, r3' 'grown/e: true: 3 nodes, r3, 1 directory sparse' 'excluded/d: true: 7 nodes, r2, 1 entry excluded' \
     'mixed_depths/d: true: 4 nodes, r3, 1 directory sparse' >wanted
 same 'folders of sparse copies' wanted got
+
+echo "== packed dumps, and svnrdump's of a text of over a mebibyte"
+gzip -c dump >dump.gz
+refused 'a packed dump' 'svnaudit: dump.gz: this is packed by gzip: unpack it first' "$SVNAUDIT" check dump.gz odd
+svnadmin create big.repo; svn -q checkout "file://$PWD/big.repo" big
+head -c 1500000 /dev/zero >big/f; svn -q add big/f; svn -q commit -m one big; svn -q update big; svnrdump dump -q "file://$PWD/big.repo" >big.dump
+# (each refusal but the last says what to try)
+offset=$(grep -abo '^Node-path: f' big.dump | cut -d: -f1) length=$(grep -a '^Text-content-length: ' big.dump | cut -d' ' -f2)
+refused 'a text that is too long' "svnaudit: big.dump: byte $offset: r1 f: text of $length bytes, the most is 1048576 (try --texts sha1)" "$SVNAUDIT" check big.dump big --texts whole
+refused 'a text without its SHA-1 checksum' "svnaudit: big.dump: byte $offset: r1 f: a text delta without the SHA-1 checksum of its text (try --texts md5)" "$SVNAUDIT" check big.dump big
+"$SVNAUDIT" check big.dump big --texts md5 >got 2>&1
+echo 'big: true: 2 nodes, r1' >wanted
+same 'a text by MD5' wanted got
 
 echo "== refusals"
 refused 'no copy' "svnaudit: repo: no working copy" "$SVNAUDIT" check dump repo

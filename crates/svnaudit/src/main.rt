@@ -18,6 +18,7 @@ mod output;
 mod pristine;
 mod progress;
 mod questions;
+mod several;
 mod show;
 mod write;
 

@@ -3,6 +3,9 @@
 use crate::database::Database;
 use crate::fault::Fault;
 use crate::folder::Folder;
+use crate::several::Several;
+use std::alloc::Global;
+use std::collections::BTreeMap;
 use std::io::ErrorKind;
 use std::path::PathBuf;
 use std::rt::Files;
@@ -11,6 +14,34 @@ use svn_answers::Source;
 use svn_model::BaseNode;
 use svn_types::RelPath;
 use svn_wcdb::BaseTree;
+
+/// The names of a copy's files, by their directories.
+type FileNames<'a> = BTreeMap<RelPath, Vec<&'a str>>;
+
+// Adds the name of a file.
+fn add_name<'a>(alloc: Global, names: &mut FileNames<'a>, path: &'a RelPath) -> Result<(), Fault> {
+    let (Some(directory), Some(name)) = (path.parent(alloc)?, path.last_name()) else {
+        return Ok(());
+    };
+    if let Some(there) = names.get_mut(&directory) {
+        there.push(name.as_str())?;
+        return Ok(());
+    }
+    let mut one = Vec::new(alloc);
+    one.push(name.as_str())?;
+    names.insert(directory, one)?;
+    Ok(())
+}
+
+fn file_names<'a>(alloc: Global, tree: &'a BaseTree) -> Result<FileNames<'a>, Fault> {
+    let mut names = BTreeMap::new(alloc);
+    for (path, node) in &tree.nodes {
+        if let BaseNode::File { .. } = node {
+            add_name(alloc, &mut names, path)?;
+        }
+    }
+    Ok(names)
+}
 
 // What can't be listed or looked at is passed over, unless an allocation failed.
 fn or_none<X: Drop>(found: io::Result<X>) -> Result<Option<X>, Fault> {
@@ -21,65 +52,119 @@ fn or_none<X: Drop>(found: io::Result<X>) -> Result<Option<X>, Fault> {
     }
 }
 
-// The folders in a directory that are working copies of their own, in byte order.
-fn nested_in<T: Files + AllocGlobal + Clone + Drop>(
+// Whether there is a working copy's database in a folder.
+fn is_copy<T: Files + AllocGlobal>(rt: &T, root: &PathBuf) -> Result<bool, Fault> {
+    Ok(or_none(fs::exists(rt, Database::file_in(rt.alloc(), root)?))? == Some(true))
+}
+
+/// A directory of a copy.
+#[derive(Clone, Copy)]
+struct Place<'a> {
+    folder: &'a Folder,
+    path: &'a RelPath,
+    // the names of its files, in order, at which there is no other copy: the system isn't asked for each
+    files: &'a [&'a str],
+}
+
+// Adds the folders in a directory that are working copies of their own.
+fn add_nested_in<T: Files + AllocGlobal + Clone + Drop>(
     rt: &T,
-    directory: &PathBuf,
-) -> Result<Vec<String>, Fault> {
-    let mut names = Vec::new(rt.alloc());
-    let Some(entries) = or_none(fs::read_dir(rt, directory))? else {
-        return Ok(names);
+    place: &Place<'_>,
+    nested: &mut Several,
+) -> Result<(), Fault> {
+    let alloc = rt.alloc();
+    let path = place.path;
+    let directory = place
+        .folder
+        .working_file(alloc, &format!(in alloc; "{path}")?)?;
+    let Some(entries) = or_none(fs::read_dir(rt, &directory))? else {
+        return Ok(());
     };
     for entry in entries {
         let Some(entry) = or_none(entry)? else {
-            return Ok(names);
+            return Ok(());
         };
-        let root = directory.join(rt.alloc(), entry.file_name())?;
-        if or_none(fs::exists(rt, Database::file_in(rt.alloc(), &root)?))? == Some(true) {
-            names.push(entry.file_name().to_string(rt.alloc())?)?;
+        let name = entry.file_name();
+        if place.files.binary_search(&name).is_err()
+            && is_copy(rt, &directory.join(alloc, name)?)?
+        {
+            let place = format!(in alloc; "{path}/{name}")?;
+            nested.add(place.trim_start_matches("./"))?;
         }
-    }
-    names.sort_unstable();
-    Ok(names)
-}
-
-// The path of the folder's directory, as the system gives it.
-fn directory_at<T: Files + AllocGlobal>(
-    rt: &T,
-    folder: &Folder,
-    path: &RelPath,
-) -> Result<PathBuf, Fault> {
-    let path = format!(in rt.alloc(); "{path}")?;
-    folder.working_file(rt.alloc(), &path)
-}
-
-// Says which folders in a directory of a copy are working copies of their own. Where this can't be written, the answer alone tells.
-fn tell_nested_in<T: Files + Eprint + AllocGlobal + Clone + Drop>(
-    rt: &T,
-    name: &str,
-    folder: &Folder,
-    path: &RelPath,
-) -> Result<(), Fault> {
-    let directory = directory_at(rt, folder, path)?;
-    for nested in &nested_in(rt, &directory)? {
-        let place = format!(in rt.alloc(); "{path}/{nested}")?;
-        let (name, place) = (Source(name), Source(place.trim_start_matches("./")));
-        let _ = eprintln!(rt; "svnaudit: {name}: {place} is a working copy of its own");
     }
     Ok(())
 }
 
-/// Says which folders beside the nodes of a copy, or at them, are working copies of their own, also of other repositories.
+fn nested_of<T: Files + AllocGlobal + Clone + Drop>(
+    rt: &T,
+    folder: &Folder,
+    tree: &BaseTree,
+) -> Result<Several, Fault> {
+    let mut nested = Several::new(rt.alloc());
+    let mut names = file_names(rt.alloc(), tree)?;
+    for (path, node) in &tree.nodes {
+        if let BaseNode::Dir { .. } = node {
+            let mut files = match names.remove(path) {
+                Some(files) => files,
+                None => Vec::new(rt.alloc()),
+            };
+            files.sort_unstable();
+            let place = Place {
+                folder,
+                path,
+                files: &files,
+            };
+            add_nested_in(rt, &place, &mut nested)?;
+        }
+    }
+    nested.sort();
+    Ok(nested)
+}
+
+/// Says which folders beside the nodes of a copy, or at its directories, are working copies of their own, also of other repositories. Where this can't be
+/// written, the answer alone tells.
 pub(crate) fn tell_nested<T: Files + Eprint + AllocGlobal + Clone + Drop>(
     rt: &T,
     name: &str,
     folder: &Folder,
     tree: &BaseTree,
 ) -> Result<(), Fault> {
+    let nested = nested_of(rt, folder, tree)?;
+    if !nested.is_empty() {
+        let name = Source(name);
+        let _ = eprintln!(rt; "svnaudit: {name}: working copies of their own are in it: {nested}");
+    }
+    Ok(())
+}
+
+fn has_externals(node: &BaseNode) -> bool {
+    match node {
+        BaseNode::Dir { props, .. } => props
+            .iter()
+            .any(|(name, _)| name.as_str() == "svn:externals"),
+        BaseNode::File { .. } | BaseNode::NotPresent => false,
+    }
+}
+
+/// Says which directories have externals. Where this can't be written, the answer alone tells.
+pub(crate) fn tell_externals<T: Eprint + AllocGlobal>(
+    rt: &T,
+    name: &str,
+    tree: &BaseTree,
+) -> Result<(), Fault> {
+    let alloc = rt.alloc();
+    let mut directories = Several::new(alloc);
     for (path, node) in &tree.nodes {
-        if let BaseNode::Dir { .. } = node {
-            tell_nested_in(rt, name, folder, path)?;
+        if has_externals(node) {
+            directories.add(&format!(in alloc; "{path}")?)?;
         }
+    }
+    directories.sort();
+    if !directories.is_empty() {
+        let name = Source(name);
+        let _ = eprintln!(rt;
+            "svnaudit: {name}: each folder that svn:externals bring is a working copy of its own; they are at: {directories}"
+        );
     }
     Ok(())
 }

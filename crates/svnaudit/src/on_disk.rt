@@ -4,13 +4,11 @@ ghost use Rattle.svnaudit.specs.Faults.{is_memory};
 use crate::database::Database;
 use crate::fault::Fault;
 use crate::folder::Folder;
-use crate::nested::tell_nested;
+use crate::nested::{tell_externals, tell_nested};
 use crate::pristine::{PristineFile, open_pristine};
 use std::rt::Files;
-use svn_answers::{Copies, Opened, Source};
+use svn_answers::{Copies, Opened};
 use svn_disk_audit::Examiner;
-use svn_editor::PathWord;
-use svn_model::BaseNode;
 use svn_types::{RelPath, Text};
 use svn_wcdb::BaseTree;
 
@@ -29,34 +27,13 @@ pub(crate) struct OpenFolder<'a, T> {
     database: Database,
 }
 
-fn has_externals(node: &BaseNode) -> bool {
-    match node {
-        BaseNode::Dir { props, .. } => props
-            .iter()
-            .any(|(name, _)| name.as_str() == "svn:externals"),
-        BaseNode::File { .. } | BaseNode::NotPresent => false,
-    }
-}
-
-// Says which directories have externals. Where this can't be written, the answer alone tells.
-fn tell_externals<T: Eprint>(rt: &T, name: &str, tree: &BaseTree) {
-    for (path, node) in &tree.nodes {
-        if has_externals(node) {
-            let (name, path) = (Source(name), PathWord(path));
-            let _ = eprintln!(rt;
-                "svnaudit: {name}: {path} has svn:externals, and each folder that they bring is a working copy of its own"
-            );
-        }
-    }
-}
-
 impl<T: Files + Eprint + AllocGlobal + Clone + Drop> Examiner for OpenFolder<'_, T> {
     type Fault = Fault;
 
     type Text = PristineFile<T::File>;
 
     fn examine(&mut self, tree: &BaseTree) -> Result<(), Fault> {
-        tell_externals(self.rt, &self.name, tree);
+        tell_externals(self.rt, &self.name, tree)?;
         tell_nested(self.rt, &self.name, &self.folder, tree)
     }
 

@@ -8,6 +8,7 @@ mod by_hand;
 mod files;
 mod one_text;
 mod sparse;
+mod told;
 
 use crate::names::names_of;
 use answers::check_copies;
@@ -25,6 +26,7 @@ use svn_dump::Texts;
 use svn_editor::Recorder;
 use svn_repo::Repo;
 use svn_wc::{Applier, WorkingCopy};
+use told::check_told;
 
 // Whether what was found is what is wanted.
 fn compare<R: Print>(rt: &R, name: &str, what: &str, found: &[u8], wanted: &[u8]) -> Result<()> {
@@ -174,5 +176,6 @@ pub(crate) fn run<R: Files + AllocGlobal + Print + Clone + Drop>(rt: &R) -> Resu
     }
     audit_with_texts(rt)?;
     check_copies(rt)?;
-    check_sparse(rt)
+    check_sparse(rt)?;
+    check_told(rt)
 }

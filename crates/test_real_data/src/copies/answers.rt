@@ -28,6 +28,8 @@ const ROWS: [(&str, Option<&[u8]>, &[&str]); 4] = [
 pub(super) struct InMemory<'a> {
     pub(super) alloc: Global,
     pub(super) database: &'a [u8],
+    /// The folder of the copy that is opened.
+    pub(super) below: &'static str,
 }
 
 /// The text of the files.
@@ -83,14 +85,17 @@ impl Copies for InMemory<'_> {
             "changing" => &self.database[..self.database.len() / 2],
             _ => self.database,
         };
-        match Vec::from_slice(self.alloc, bytes) {
-            Ok(database) => Ok(Opened {
-                database,
-                below: RelPath::root(self.alloc),
-                examiner: OneText(b"f\n"),
-            }),
-            Err(_) => Err(Refused("out of memory")),
-        }
+        let (Ok(database), Ok(below)) = (
+            Vec::from_slice(self.alloc, bytes),
+            RelPath::parse(self.alloc, self.below),
+        ) else {
+            return Err(Refused("out of memory"));
+        };
+        Ok(Opened {
+            database,
+            below,
+            examiner: OneText(b"f\n"),
+        })
     }
 
     fn look_again(
@@ -130,26 +135,27 @@ pub(super) fn answers_of<C: Copies>(
     Ok((verdict.status(), lines, notices.output))
 }
 
-/// The line of the refusal, where the report of a copy is asked for, and it is refused.
-pub(super) fn refusal_of<'a, C: Copies>(
+/// What is told of a copy, untrue or not, where something is asked of it: the lines, and the notices.
+pub(super) fn told_of<'a, C: Copies>(
     alloc: Global,
     history: History<'a>,
     copies: &'a C,
+    topic: Topic,
     name: &str,
-) -> Result<Vec<u8>> {
+) -> Result<(Vec<u8>, Vec<u8>)> {
     let asked = Asked {
         alloc,
         history,
         copies,
     };
     let inquiry = Inquiry {
-        topic: Topic::Report,
+        topic,
         allow_untrue: true,
     };
     let mut lines = Vec::new(alloc);
     let mut notices = WrittenNotices::new(copies, Vec::new(alloc));
     asked.answer_written(inquiry, name, &mut lines, &mut notices)?;
-    Ok(notices.output)
+    Ok((lines, notices.output))
 }
 
 /// Checks copies, and prints the answers.
@@ -161,6 +167,7 @@ pub(crate) fn check_copies<R: Files + AllocGlobal + Print>(rt: &R) -> Result<()>
     let copies = InMemory {
         alloc,
         database: &database,
+        below: "",
     };
     for (row, uuid, names) in &ROWS {
         let history = History {

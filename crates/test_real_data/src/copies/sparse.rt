@@ -3,13 +3,13 @@
 //! `data/sparse` has for each copy NAME its database NAME.db; NAME.checked, what `check` must print; and NAME.refused, the line of the refusal, none of the
 //! copy that isn't sparse. All are of the history sparse.dump. `examples/subversion/sparse_data.sh` has Subversion make them.
 
-use super::answers::{InMemory, answers_of, refusal_of};
+use super::answers::{InMemory, answers_of, told_of};
 use super::compare;
 use super::files::{file_of, history_of};
 use crate::names::names_of;
 use anyhow::Result;
 use std::rt::Files;
-use svn_answers::History;
+use svn_answers::{History, Topic};
 use svn_dump::Texts;
 
 fn compare_answers<R: Files + AllocGlobal + Print>(
@@ -34,10 +34,11 @@ fn compare_copy<R: Files + AllocGlobal + Print>(
     let copies = InMemory {
         alloc,
         database: &database,
+        below: "",
     };
     compare_answers(rt, history, &copies, name)?;
     let wanted = file_of(rt, "sparse", name, "refused")?;
-    let found = refusal_of(alloc, history, &copies, name)?;
+    let (_, found) = told_of(alloc, history, &copies, Topic::Report, name)?;
     compare(rt, name, "what is refused", &found, &wanted)
 }
 
