@@ -1,6 +1,7 @@
 pub mod Goes
 pub mod Places
 pub mod Plans
+pub mod Tasks
 pub mod Crashes
 pub mod Ends
 pub mod Readings

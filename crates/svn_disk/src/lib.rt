@@ -92,6 +92,7 @@ mod prepared;
 mod preparing;
 mod read_back;
 mod refusals;
+mod repeated;
 mod rows;
 mod settle;
 mod source;

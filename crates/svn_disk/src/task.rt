@@ -4,6 +4,7 @@ ghost use Rattle.std.specs.List.{list_all};
 ghost use Rattle.svn_wcrows.specs.declared.work.Work.{Work};
 ghost use Rattle.svn_disk.specs.Places.{is_outside};
 ghost use Rattle.svn_disk.specs.Plans.{path_of};
+ghost use Rattle.svn_disk.specs.Tasks.{removals_in, makings_in, is_removal, IsParted};
 
 use crate::fault::DiskFault;
 use crate::layout::is_outside;
@@ -22,7 +23,9 @@ pub(crate) struct Task {
     removals: usize,
 }
 
-fn is_removal(work: &Work) -> bool {
+fn is_removal(work: &Work) -> bool
+    ensures { result ≡ is_removal work.now }
+{
     match work {
         Work::RemoveFile(_) | Work::RemoveDirectory(_) => true,
         Work::MakeDirectory(_) | Work::InstallFile(_) => false,
@@ -50,6 +53,7 @@ impl Task {
     pub(crate) fn of_queue(work: Vec<Work>) -> Option<Task>
         ensures outside { IfSome result (λ task. list_all (λ item. is_outside (path_of item)) task.work.items ≡ true) }
         ensures same { IfSome result (λ task. task.work.items ≡ work.items) }
+        ensures parted { IfSome result (λ task. IsParted task) }
     {
         if !is_all_outside(&work) {
             return None;
@@ -59,16 +63,21 @@ impl Task {
             .position(|item| !is_removal(item))
             .unwrap_or(work.len());
         let task = Task { work, removals };
-        if task.makings().iter().any(is_removal) {
-            None
-        } else {
-            Some(task)
-        }
+        if task.is_parted() { Some(task) } else { None }
+    }
+
+    // Whether all that goes comes first.
+    fn is_parted(&self) -> bool
+        ensures { result ≡ true → IsParted self.now }
+    {
+        self.removals().iter().all(|item| is_removal(item))
+            && !self.makings().iter().any(|item| is_removal(item))
     }
 
     /// What goes.
     pub(crate) fn removals(&self) -> &[Work]
-        ensures { (P : Work → Bool) → list_all P self.now.work.items ≡ true → list_all P result.now ≡ true }
+        ensures all { (P : Work → Bool) → list_all P self.now.work.items ≡ true → list_all P result.now ≡ true }
+        ensures same { result.now ≡ removals_in self.now }
     {
         let count = self.removals.min(self.work.len());
         &self.work[..count]
@@ -76,7 +85,8 @@ impl Task {
 
     /// What comes.
     pub(crate) fn makings(&self) -> &[Work]
-        ensures { (P : Work → Bool) → list_all P self.now.work.items ≡ true → list_all P result.now ≡ true }
+        ensures all { (P : Work → Bool) → list_all P self.now.work.items ≡ true → list_all P result.now ≡ true }
+        ensures same { result.now ≡ makings_in self.now }
     {
         let count = self.removals.min(self.work.len());
         &self.work[count..]
