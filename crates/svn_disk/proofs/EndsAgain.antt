@@ -1,8 +1,8 @@
 -- A completion, and what is shown once its work is done.
-use Rattle.std.proofs.Common.{◌≡◌, true, ℕ, ◌+◌, ◌<◌, List, [], ◌∷◌, ◌++◌, length, take, drop, get_or, min, refl, sym, ◌∙◌, ap, subst}
+use Rattle.std.proofs.Common.{◌≡◌, true, ℕ, ◌+◌, ◌<◌, ◌^◌, List, [], ◌∷◌, ◌++◌, length, take, drop, get_or, min, refl, sym, ◌∙◌, ap, subst, arith}
 use Rattle.std.specs.Prelude.{codes, Result, Ok, Err, OnOk, ⊤}
 use Rattle.std.specs.List.{list_all}
-use Rattle.std.proofs.lemmas.List.{take_more}
+use Rattle.std.proofs.lemmas.List.{take_more, length-append}
 use Rattle.std.proofs.Math.Seq.{take-length}
 use Rattle.svn_types.specs.Names.{Path}
 use Rattle.svn_types.proofs.NameLemmas.{Name}
@@ -33,6 +33,7 @@ use Rattle.svn_disk.proofs.Reading.{each_present}
 use Rattle.svn_disk.proofs.Copies.{one_database, same_copies}
 use Rattle.svn_disk.proofs.Queue.{always_same}
 use Rattle.svn_disk.proofs.Ends.{keeps_turns, turns_when, turns_along}
+use Rattle.svn_disk.proofs.EndsTexts.{count_at_most, AreComing}
 use Rattle.svn_disk.proofs.EndsCopy.{each_ready}
 use Rattle.svn_disk.proofs.EndsDone.{turns_both, carried_done}
 
@@ -61,6 +62,15 @@ texts_more P copy work k x below is texts here =
 pub texts_all : (P : List ℕ → Type 0) (copy : List (Path × BaseNode)) (work : List Work) (k : ℕ) → k ≡ length work → EachText P (work_nodes copy (take k work))
     → EachText P (work_nodes copy work)
 texts_all P copy work k is texts = subst (λ (xs : List Work). EachText P (work_nodes copy xs)) (ap (λ j. take j work) is ∙ take-length work) texts
+
+-- the number of the next file is small
+pub number_below : (n : Name) (P : List ℕ → Type 0) (files : ℕ) (rest all : List (Path × BaseNode)) (old new : Past) → length all < 2 ^ 63
+    → AreComing n P files rest all old new → files < 2 ^ 64
+number_below n P files rest all old new few coming =
+    let most = count_at_most coming.done in
+    let parts = sym (length-append coming.done rest) ∙ ap length coming.split in
+    let count = coming.count in
+    omega (arith, most, parts, count, few)
 
 -- ---- files that are prepared from them
 

@@ -1,6 +1,6 @@
 //! What is left to do on disk for a change: what goes, and then what comes.
 ghost use Rattle.std.specs.Prelude.{◌≡◌, Bool, true, IfSome};
-ghost use Rattle.std.specs.List.{list_all};
+ghost use Rattle.std.specs.List.{list_all, list_any};
 ghost use Rattle.svn_wcrows.specs.declared.work.Work.{Work};
 ghost use Rattle.svn_disk.specs.Places.{is_outside};
 ghost use Rattle.svn_disk.specs.Plans.{path_of};
@@ -30,6 +30,20 @@ fn is_removal(work: &Work) -> bool
         Work::RemoveFile(_) | Work::RemoveDirectory(_) => true,
         Work::MakeDirectory(_) | Work::InstallFile(_) => false,
     }
+}
+
+// Whether all of it removes something.
+fn all_go(work: &[Work]) -> bool
+    ensures { result ≡ list_all is_removal work.now }
+{
+    work.iter().all(|item| is_removal(item))
+}
+
+// Whether some of it removes something.
+fn any_goes(work: &[Work]) -> bool
+    ensures { result ≡ list_any is_removal work.now }
+{
+    work.iter().any(|item| is_removal(item))
 }
 
 // Whether none of it is in the administrative folder, or at the path of the copy itself.
@@ -70,8 +84,7 @@ impl Task {
     fn is_parted(&self) -> bool
         ensures { result ≡ true → IsParted self.now }
     {
-        self.removals().iter().all(|item| is_removal(item))
-            && !self.makings().iter().any(|item| is_removal(item))
+        all_go(self.removals()) && !any_goes(self.makings())
     }
 
     /// What goes.

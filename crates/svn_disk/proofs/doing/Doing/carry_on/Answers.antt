@@ -127,8 +127,9 @@ returns-clause-spares g c =
 pub returns-clause-ends : goal.returns-clause-ends
 returns-clause-ends g c = λ distinct.
     let task = c.args.self.now.task.now in
-    let counted : c.len-count.result ≡ length task.work.items = c.len-count.ensures in
-    let few = few_left (min task.removals (length task.work.items)) task.work.items (omega (arith, counted)) in
+    let counted = c.len-count.ensures in
+    let whole = task.work.ok.0 in
+    let few = few_left (min task.removals (length task.work.items)) task.work.items (omega (arith, counted, whole)) in
     let outs = all_taken (λ item. is_outside (path_of item)) (min task.removals (length task.work.items)) task.work.items c.requires.outside in
     let outside = all_dropped (λ item. is_outside (path_of item)) (min task.removals (length task.work.items)) task.work.items c.requires.outside in
     ends_more (IsExchanged (codes ".svn")) (AreCarried (codes ".svn") (removals_in task) (makings_in task)) (g.F.Folder.past c.replace.new.folder) c.replace.result
