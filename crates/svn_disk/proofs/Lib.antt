@@ -40,6 +40,8 @@ pub mod EndsTexts
 pub mod EndsDone
 -- a completion, and what is shown then
 pub mod EndsAgain
+-- a change, and what is shown then
+pub mod EndsChange
 -- the nodes of a copy at their places
 pub mod EndsCopy
 -- texts that are written in another way

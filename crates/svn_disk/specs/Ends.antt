@@ -10,7 +10,7 @@
 --     AreCarried work removals before left      what comes is there, and where a file goes and nothing comes is no file and no link
 --     IsCompleted rows copy left      all work that these rows of the queue are is done, and each file that comes has the text of the copy
 --     AreCopied n i copy left      it is there as its pristine text is, whatever that is
-use Rattle.std.specs.Prelude.{◌≡◌, ◌⊎◌, ℕ, ◌+◌, ◌-◌, ◌<◌, ◌^◌, min, true, false, List, [], ◌∷◌, ◌++◌, drop, codes, Option, Some, None, is_some, Ok, ⊤}
+use Rattle.std.specs.Prelude.{◌≡◌, ◌⊎◌, ℕ, Bool, ◌+◌, ◌-◌, ◌<◌, ◌^◌, min, true, false, List, [], ◌∷◌, ◌++◌, drop, codes, Option, Some, None, is_some, Ok, ⊤}
 use Rattle.std.specs.BTreeMap.{is_at}
 use Rattle.std.specs.Cmp.Lexicographic.{slice_cmp}
 use Rattle.std.specs.Fmt.{decimal}
@@ -18,7 +18,7 @@ use Rattle.std.specs.List.{list_any}
 use Rattle.std.specs.Map.{lookup}
 use Rattle.std.specs.Ordering.{nat_cmp}
 use Rattle.hex.specs.Hex.{decode_sized}
-use Rattle.svn_types.specs.Names.{Path}
+use Rattle.svn_types.specs.Names.{Path, path_cmp}
 use Rattle.svn_types.specs.Paths.{path_eq, is_root}
 use Rattle.svn_digits.specs.StandIns.{stand_in, is_stand_in}
 use Rattle.svn_model.specs.declared.base_node.BaseNode.{BaseNode}
@@ -38,7 +38,7 @@ use Rattle.svn_folder.specs.Pasts.{Past, Known}
 use Rattle.svn_disk.specs.Places.{is_outside, text_place, database_place, new_database_place}
 use Rattle.svn_disk.specs.Plans.{path_of}
 use Rattle.svn_disk.specs.Tasks.{comes_at, work_node}
-use Rattle.svn_disk.specs.Crashes.{IsTextAt}
+use Rattle.svn_disk.specs.Crashes.{IsTextAt, OfText}
 
 -- ---- what is shown in the end
 
@@ -151,6 +151,33 @@ AreFiles copy (item ∷ work) = (files_at (work_node copy item) ≡ files_of ite
 -- the checksum that a stand-in is of is among those of the texts that are kept
 abbrev pub IsHeld : List (List ℕ × ℕ) → List ℕ → Type 0
 IsHeld sizes name = (sum : List ℕ) × (decode_sized (drop 6 name) 20 ≡ Ok sum) × (is_some (lookup (is_at (slice_cmp nat_cmp sum)) sizes) ≡ true)
+
+-- the texts that are held stay so
+abbrev pub StayHeld : List (List ℕ × ℕ) → List (List ℕ × ℕ) → Type 0
+StayHeld sizes more = (name : List ℕ) → IsHeld sizes name → IsHeld more name
+
+-- the size of a file is noted, or that it is a link
+abbrev pub is_noted : List (Path × Option ℕ) → Path → Bool
+is_noted sizes p = is_some (lookup (is_at (path_cmp p)) sizes)
+
+abbrev pub StayNoted : List (Path × Option ℕ) → List (Path × Option ℕ) → Type 0
+StayNoted sizes more = (p : Path) → is_noted sizes p ≡ true → is_noted more p ≡ true
+
+-- of one item, and of all: the size of each file that comes is noted
+abbrev pub IsNoted : List (Path × Option ℕ) → Work → Type 0
+IsNoted sizes (MakeDirectory p) = ⊤
+IsNoted sizes (InstallFile p) = is_noted sizes p ≡ true
+IsNoted sizes (RemoveFile p) = ⊤
+IsNoted sizes (RemoveDirectory p) = ⊤
+
+abbrev pub AreNoted : List (Path × Option ℕ) → List Work → Type 0
+AreNoted sizes [] = ⊤
+AreNoted sizes (item ∷ work) = IsNoted sizes item × AreNoted sizes work
+
+-- of each node whose size is noted, its text
+abbrev pub EachNoted : List (Path × Option ℕ) → (List ℕ → Type 0) → List (Path × BaseNode) → Type 0
+EachNoted sizes P [] = ⊤
+EachNoted sizes P (entry ∷ nodes) = (is_noted sizes entry.0 ≡ true → OfText P entry.1) × EachNoted sizes P nodes
 
 -- no two items are about the same path
 abbrev pub AreDistinct : List Work → Type 0

@@ -4,6 +4,7 @@ pub mod Plans
 pub mod Tasks
 pub mod Crashes
 pub mod Ends
+pub mod Changes
 pub mod Readings
 pub mod Signs
 pub mod Spared

@@ -1,4 +1,9 @@
 //! What differs between two working copies, and what is done on disk to get from one to the other.
+ghost use Rattle.std.specs.Prelude.{◌≡◌, [], true, map, IfOk};
+ghost use Rattle.std.specs.List.{flat_map};
+ghost use Rattle.std.specs.Option.{option_map};
+ghost use Rattle.svn_model.specs.Nodes.{is_dir};
+ghost use Rattle.svn_disk.specs.Changes.{comes, goes, making_directory, making_file, removing_directory, removing_file, makings_of, removals_of};
 
 use crate::above::note_above;
 use crate::fault::DiskFault;
@@ -33,12 +38,16 @@ pub enum Change {
 
 impl Change {
     /// Whether something is removed.
-    fn removes(self) -> bool {
+    fn removes(self) -> bool
+        ensures { result ≡ goes self }
+    {
         matches!(self, Change::Removed | Change::Replaced)
     }
 
     /// Whether something is made.
-    fn makes(self) -> bool {
+    fn makes(self) -> bool
+        ensures { result ≡ comes self }
+    {
         matches!(
             self,
             Change::Added | Change::Replaced | Change::Rewritten | Change::Restored
@@ -135,7 +144,9 @@ impl<'a> Plan<'a> {
         alloc: Global,
         old: &'a WorkingCopy,
         new: &'a WorkingCopy,
-    ) -> Result<Plan<'a>, DiskFault> {
+    ) -> Result<Plan<'a>, DiskFault>
+        ensures copies { IfOk result (λ plan. (plan.old.now ≡ old.now) × (plan.new.now ≡ new.now)) }
+    {
         let mut plan = Plan {
             old,
             new,
@@ -147,7 +158,9 @@ impl<'a> Plan<'a> {
     }
 
     // Notes what becomes of each path of a copy.
-    fn note_all(&mut self, copy: &WorkingCopy) -> Result<(), DiskFault> {
+    fn note_all(&mut self, copy: &WorkingCopy) -> Result<(), DiskFault>
+        ensures copies { (self.new.old ≡ self.old.old) × (self.new.new ≡ self.old.new) }
+    {
         for (path, _) in copy.iter() {
             if let Some(change) = change_of(self.old.get(path), self.new.get(path)) {
                 self.changes.insert(path.clone()?, change)?;
@@ -183,7 +196,9 @@ impl<'a> Plan<'a> {
         &mut self,
         alloc: Global,
         folder: &F,
-    ) -> Result<(), DiskFault> {
+    ) -> Result<(), DiskFault>
+        ensures copies { (self.new.old ≡ self.old.old) × (self.new.new ≡ self.old.new) }
+    {
         for path in self.above_makings(alloc)? {
             let is_planned = match self.changes.get(&path) {
                 Some(change) => change.makes(),
@@ -209,7 +224,9 @@ impl<'a> Plan<'a> {
     }
 
     /// Plans those of these nodes that stay, since they aren't on disk.
-    pub(crate) fn restore_nodes(&mut self, missing: &BTreeSet<RelPath>) -> Result<(), DiskFault> {
+    pub(crate) fn restore_nodes(&mut self, missing: &BTreeSet<RelPath>) -> Result<(), DiskFault>
+        ensures copies { (self.new.old ≡ self.old.old) × (self.new.new ≡ self.old.new) }
+    {
         for path in missing {
             if self.stays(path) {
                 self.changes.insert(path.clone()?, Change::Restored)?;
@@ -219,7 +236,9 @@ impl<'a> Plan<'a> {
     }
 
     /// Whether nothing differs.
-    pub(crate) fn is_empty(&self) -> bool {
+    pub(crate) fn is_empty(&self) -> bool
+        ensures { result ≡ true → self.now.changes.entries ≡ [] }
+    {
         self.changes.is_empty()
     }
 
@@ -247,43 +266,83 @@ impl<'a> Plan<'a> {
         }
     }
 
-    /// The files that go, and then the directories, from below.
-    pub(crate) fn removals(&self, alloc: Global) -> Result<Vec<Work>, DiskFault> {
+    // The directories that go.
+    fn directories_that_go(&self, alloc: Global) -> Result<Vec<Work>, DiskFault>
+        ensures { IfOk result (λ work. work.items ≡ flat_map (removing_directory self.now.old.now) self.now.changes.entries) }
+    {
         let mut work = Vec::new(alloc);
-        let mut directories = Vec::new(alloc);
         for (path, change) in &self.changes {
-            if change.removes() {
-                if is_directory(self.old.get(path)) {
-                    directories.push(Work::RemoveDirectory(path.clone()?))?;
-                } else {
-                    work.push(Work::RemoveFile(path.clone()?))?;
-                }
+            if change.removes() && is_directory(self.old.get(path)) {
+                work.push(Work::RemoveDirectory(path.clone()?))?;
             }
         }
+        Ok(work)
+    }
+
+    // The files that go.
+    fn files_that_go(&self, alloc: Global) -> Result<Vec<Work>, DiskFault>
+        ensures { IfOk result (λ work. work.items ≡ flat_map (removing_file self.now.old.now) self.now.changes.entries) }
+    {
+        let mut work = Vec::new(alloc);
+        for (path, change) in &self.changes {
+            if change.removes() && !is_directory(self.old.get(path)) {
+                work.push(Work::RemoveFile(path.clone()?))?;
+            }
+        }
+        Ok(work)
+    }
+
+    /// The files that go, and then the directories, from below.
+    pub(crate) fn removals(&self, alloc: Global) -> Result<Vec<Work>, DiskFault>
+        ensures { IfOk result (λ work. work.items ≡ removals_of self.now.old.now self.now.changes.entries) }
+    {
+        let mut work = self.files_that_go(alloc)?;
+        let mut directories = self.directories_that_go(alloc)?;
         directories.reverse();
         work.append(&mut directories)?;
         Ok(work)
     }
 
-    /// The directories that come, from above, and then the files that come or become others.
-    pub(crate) fn makings(&self, alloc: Global) -> Result<Vec<Work>, DiskFault> {
+    // The directories that come.
+    fn directories_that_come(&self, alloc: Global) -> Result<Vec<Work>, DiskFault>
+        ensures { IfOk result (λ work. work.items ≡ flat_map (making_directory self.now.new.now) self.now.changes.entries) }
+    {
         let mut work = Vec::new(alloc);
-        let mut files = Vec::new(alloc);
         for (path, change) in &self.changes {
-            if change.makes() {
-                if is_directory(self.new.get(path)) {
-                    work.push(Work::MakeDirectory(path.clone()?))?;
-                } else {
-                    files.push(Work::InstallFile(path.clone()?))?;
-                }
+            if change.makes() && is_directory(self.new.get(path)) {
+                work.push(Work::MakeDirectory(path.clone()?))?;
             }
         }
+        Ok(work)
+    }
+
+    // The files that come, or become others.
+    fn files_that_come(&self, alloc: Global) -> Result<Vec<Work>, DiskFault>
+        ensures { IfOk result (λ work. work.items ≡ flat_map (making_file self.now.new.now) self.now.changes.entries) }
+    {
+        let mut work = Vec::new(alloc);
+        for (path, change) in &self.changes {
+            if change.makes() && !is_directory(self.new.get(path)) {
+                work.push(Work::InstallFile(path.clone()?))?;
+            }
+        }
+        Ok(work)
+    }
+
+    /// The directories that come, from above, and then the files that come or become others.
+    pub(crate) fn makings(&self, alloc: Global) -> Result<Vec<Work>, DiskFault>
+        ensures { IfOk result (λ work. work.items ≡ makings_of self.now.new.now self.now.changes.entries) }
+    {
+        let mut work = self.directories_that_come(alloc)?;
+        let mut files = self.files_that_come(alloc)?;
         work.append(&mut files)?;
         Ok(work)
     }
 
     /// What becomes of each path, in path order.
-    pub(crate) fn into_changes(self, alloc: Global) -> Result<Vec<PathChange>, DiskFault> {
+    pub(crate) fn into_changes(self, alloc: Global) -> Result<Vec<PathChange>, DiskFault>
+        ensures { IfOk result (λ list. map (λ change. (change.path, change.change)) list.items ≡ self.changes.entries) }
+    {
         let Plan { changes, .. } = self;
         let mut list = Vec::new(alloc);
         for (path, change) in changes {
@@ -294,7 +353,9 @@ impl<'a> Plan<'a> {
 }
 
 // Whether it is a directory.
-fn is_directory(node: Option<&BaseNode>) -> bool {
+fn is_directory(node: Option<&BaseNode>) -> bool
+    ensures { result ≡ is_dir (option_map (λ node. node.now) node) }
+{
     match node {
         Some(node) => node.is_directory(),
         None => false,

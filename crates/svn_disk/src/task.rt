@@ -1,10 +1,11 @@
 //! What is left to do on disk for a change: what goes, and then what comes.
-ghost use Rattle.std.specs.Prelude.{◌≡◌, Bool, true, IfSome};
+ghost use Rattle.std.specs.Prelude.{◌≡◌, [], Bool, true, IfOk, IfSome};
 ghost use Rattle.std.specs.List.{list_all, list_any};
 ghost use Rattle.svn_wcrows.specs.declared.work.Work.{Work};
 ghost use Rattle.svn_disk.specs.Places.{is_outside};
 ghost use Rattle.svn_disk.specs.Plans.{path_of};
 ghost use Rattle.svn_disk.specs.Tasks.{removals_in, makings_in, is_removal, IsParted};
+ghost use Rattle.svn_disk.specs.Changes.{removals_of, makings_of};
 
 use crate::fault::DiskFault;
 use crate::layout::is_outside;
@@ -55,7 +56,10 @@ fn is_all_outside(work: &[Work]) -> bool
 
 impl Task {
     /// That of a plan.
-    pub(crate) fn of_plan(alloc: Global, plan: &Plan<'_>) -> Result<Task, DiskFault> {
+    pub(crate) fn of_plan(alloc: Global, plan: &Plan<'_>) -> Result<Task, DiskFault>
+        ensures removals { IfOk result (λ task. removals_in task ≡ removals_of plan.now.old.now plan.now.changes.entries) }
+        ensures makings { IfOk result (λ task. makings_in task ≡ makings_of plan.now.new.now plan.now.changes.entries) }
+    {
         let mut work = plan.removals(alloc)?;
         let removals = work.len();
         let mut makings = plan.makings(alloc)?;
@@ -106,7 +110,9 @@ impl Task {
     }
 
     /// Whether nothing is left to do.
-    pub(crate) fn is_empty(&self) -> bool {
+    pub(crate) fn is_empty(&self) -> bool
+        ensures { result ≡ true → self.now.work.items ≡ [] }
+    {
         self.work.is_empty()
     }
 

@@ -4,6 +4,8 @@ use Rattle.svn_disk.proofs.Going.{goes_there}
 use Rattle.svn_disk.proofs.Running.{breaks_leaves, leads_leaves, runs_there, runs_after}
 use Rattle.svn_disk.proofs.Copies.{kept_none, kept_left}
 use Rattle.svn_disk.proofs.Sparing.{goes_in_there}
+use Rattle.svn_disk.proofs.Ends.{turns_along}
+use Rattle.svn_disk.proofs.EndsChange.{changes_done}
 use Rattle.svn_disk.proofs.bringing.bring.Goals as goal
 
 pub returns-in_err-plan-clause-crash : goal.returns-in_err-plan-clause-crash
@@ -27,3 +29,14 @@ returns-clause-after g c = λ sync.
 
 pub returns-clause-spares : goal.returns-clause-spares
 returns-clause-spares g c = goes_in_there c.into_changes.result c.in_ok-bring_by.ensures.spares.0
+
+pub returns-clause-ends : goal.returns-clause-ends
+returns-clause-ends g c =
+    let old = c.args.existing.now.copy in
+    let new = c.args.wanted.now.copy in
+    let entries = c.in_ok-plan.plan.changes.entries in
+    let parted = c.in_ok-bring_by.ensures.parted in
+    let done = c.in_ok-bring_by.ensures.ends c.in_ok-plan.ensures.1 in
+    on_list c.into_changes.result
+    (λ list is. turns_along (λ a b. AreChanged old new list.items b) (λ a b all. changes_done old new entries list.items b parted is all) done)
+    c.into_changes.ensures
