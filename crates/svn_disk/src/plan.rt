@@ -1,8 +1,7 @@
 //! What differs between two working copies, and what is done on disk to get from one to the other.
-ghost use Rattle.std.specs.Prelude.{◌≡◌, [], true, map, IfOk};
+ghost use Rattle.std.specs.Prelude.{◌≡◌, ◌++◌, [], true, map, IfOk, OnOk};
 ghost use Rattle.std.specs.List.{flat_map};
-ghost use Rattle.std.specs.Option.{option_map};
-ghost use Rattle.svn_model.specs.Nodes.{is_dir};
+ghost use Rattle.svn_model.specs.Nodes.{get_in, is_dir};
 ghost use Rattle.svn_disk.specs.Changes.{comes, goes, making_directory, making_file, removing_directory, removing_file, makings_of, removals_of};
 
 use crate::above::note_above;
@@ -266,17 +265,45 @@ impl<'a> Plan<'a> {
         }
     }
 
+    // Adds the directory at a path to what goes, if it does.
+    fn push_removing_directory(
+        &self,
+        work: &mut Vec<Work>,
+        path: &RelPath,
+        change: Change,
+    ) -> Result<(), DiskFault>
+        ensures { OnOk result (work.new.items ≡ work.old.items ++ removing_directory self.now.old.now (path.now, change)) }
+    {
+        if change.removes() && is_directory(self.old, path) {
+            work.push(Work::RemoveDirectory(path.clone()?))?;
+        }
+        Ok(())
+    }
+
     // The directories that go.
     fn directories_that_go(&self, alloc: Global) -> Result<Vec<Work>, DiskFault>
         ensures { IfOk result (λ work. work.items ≡ flat_map (removing_directory self.now.old.now) self.now.changes.entries) }
     {
         let mut work = Vec::new(alloc);
         for (path, change) in &self.changes {
-            if change.removes() && is_directory(self.old.get(path)) {
-                work.push(Work::RemoveDirectory(path.clone()?))?;
-            }
+            self.push_removing_directory(&mut work, path, *change)?;
         }
         Ok(work)
+    }
+
+    // Adds the file at a path to what goes, if it does.
+    fn push_removing_file(
+        &self,
+        work: &mut Vec<Work>,
+        path: &RelPath,
+        change: Change,
+    ) -> Result<(), DiskFault>
+        ensures { OnOk result (work.new.items ≡ work.old.items ++ removing_file self.now.old.now (path.now, change)) }
+    {
+        if change.removes() && !is_directory(self.old, path) {
+            work.push(Work::RemoveFile(path.clone()?))?;
+        }
+        Ok(())
     }
 
     // The files that go.
@@ -285,9 +312,7 @@ impl<'a> Plan<'a> {
     {
         let mut work = Vec::new(alloc);
         for (path, change) in &self.changes {
-            if change.removes() && !is_directory(self.old.get(path)) {
-                work.push(Work::RemoveFile(path.clone()?))?;
-            }
+            self.push_removing_file(&mut work, path, *change)?;
         }
         Ok(work)
     }
@@ -303,17 +328,45 @@ impl<'a> Plan<'a> {
         Ok(work)
     }
 
+    // Adds the directory at a path to what comes, if it does.
+    fn push_making_directory(
+        &self,
+        work: &mut Vec<Work>,
+        path: &RelPath,
+        change: Change,
+    ) -> Result<(), DiskFault>
+        ensures { OnOk result (work.new.items ≡ work.old.items ++ making_directory self.now.new.now (path.now, change)) }
+    {
+        if change.makes() && is_directory(self.new, path) {
+            work.push(Work::MakeDirectory(path.clone()?))?;
+        }
+        Ok(())
+    }
+
     // The directories that come.
     fn directories_that_come(&self, alloc: Global) -> Result<Vec<Work>, DiskFault>
         ensures { IfOk result (λ work. work.items ≡ flat_map (making_directory self.now.new.now) self.now.changes.entries) }
     {
         let mut work = Vec::new(alloc);
         for (path, change) in &self.changes {
-            if change.makes() && is_directory(self.new.get(path)) {
-                work.push(Work::MakeDirectory(path.clone()?))?;
-            }
+            self.push_making_directory(&mut work, path, *change)?;
         }
         Ok(work)
+    }
+
+    // Adds the file at a path to what comes, if it does.
+    fn push_making_file(
+        &self,
+        work: &mut Vec<Work>,
+        path: &RelPath,
+        change: Change,
+    ) -> Result<(), DiskFault>
+        ensures { OnOk result (work.new.items ≡ work.old.items ++ making_file self.now.new.now (path.now, change)) }
+    {
+        if change.makes() && !is_directory(self.new, path) {
+            work.push(Work::InstallFile(path.clone()?))?;
+        }
+        Ok(())
     }
 
     // The files that come, or become others.
@@ -322,9 +375,7 @@ impl<'a> Plan<'a> {
     {
         let mut work = Vec::new(alloc);
         for (path, change) in &self.changes {
-            if change.makes() && !is_directory(self.new.get(path)) {
-                work.push(Work::InstallFile(path.clone()?))?;
-            }
+            self.push_making_file(&mut work, path, *change)?;
         }
         Ok(work)
     }
@@ -341,7 +392,7 @@ impl<'a> Plan<'a> {
 
     /// What becomes of each path, in path order.
     pub(crate) fn into_changes(self, alloc: Global) -> Result<Vec<PathChange>, DiskFault>
-        ensures { IfOk result (λ list. map (λ change. (change.path, change.change)) list.items ≡ self.changes.entries) }
+        ensures { IfOk result (λ list. map (λ change. (change.path, change.change)) list.items ≡ self.entry.changes.entries) }
     {
         let Plan { changes, .. } = self;
         let mut list = Vec::new(alloc);
@@ -352,11 +403,11 @@ impl<'a> Plan<'a> {
     }
 }
 
-// Whether it is a directory.
-fn is_directory(node: Option<&BaseNode>) -> bool
-    ensures { result ≡ is_dir (option_map (λ node. node.now) node) }
+// Whether a copy has a directory at a path.
+fn is_directory(copy: &WorkingCopy, path: &RelPath) -> bool
+    ensures { result ≡ is_dir (get_in copy.now path.now) }
 {
-    match node {
+    match copy.get(path) {
         Some(node) => node.is_directory(),
         None => false,
     }
