@@ -1,13 +1,13 @@
 -- A change, and what is shown once its work is done.
 use Rattle.std.proofs.Common.{◌≡◌, Bool, true, false, ◌&&◌, ◌||◌, not, ℕ, ◌+◌, ◌<◌, ◌^◌, map, min, arith, List, [], ◌∷◌, ◌++◌, length, take, drop, get_or, refl, sym, ◌∙◌, ap, subst, true≢false}
-use Rattle.std.specs.Prelude.{codes, cond, if◌then◌else◌, reverse, Option, Some, None, is_some, ⊤}
+use Rattle.std.specs.Prelude.{codes, cond, if◌then◌else◌, reverse, Option, Some, None, is_some, Result, Ok, Err, IfOk, ⊤}
 use Rattle.std.specs.List.{list_all, list_any, flat_map}
-use Rattle.std.proofs.lemmas.Bool.{or_parts}
-use Rattle.std.proofs.lemmas.List.Folds.{list_any-append}
+use Rattle.std.proofs.lemmas.Bool.{and_parts, or_parts}
+use Rattle.std.proofs.lemmas.List.Folds.{list_all-append, list_any-append}
 use Rattle.std.specs.BTreeMap.{is_at}
 use Rattle.std.specs.Map.{lookup}
 use Rattle.std.specs.Option.{unwrap_or}
-use Rattle.std.proofs.lemmas.List.{take_more, take-append-drop}
+use Rattle.std.proofs.lemmas.List.{take_more, take-append-drop, take_at, drop_at, length-append, reverse-append}
 use Rattle.std.proofs.Math.Seq.{take-length}
 use Rattle.svn_types.specs.Names.{Path, path_cmp}
 use Rattle.svn_types.proofs.NameLemmas.{Name}
@@ -20,7 +20,7 @@ use Rattle.svn_wcrows.specs.declared.work.Work.{Work}
 use Rattle.svn_wcrows.specs.declared.work.Work.TheVariants.{MakeDirectory, InstallFile, RemoveFile, RemoveDirectory}
 use Rattle.svn_disk.specs.Plans.{path_of, text_of_node}
 use Rattle.svn_disk.specs.declared.task.Task.{Task}
-use Rattle.svn_disk.specs.Tasks.{removals_in, makings_in, is_removal, comes_at, node_at, work_node, work_nodes}
+use Rattle.svn_disk.specs.Tasks.{removals_in, makings_in, is_removal, IsParted, comes_at, node_at, work_node, work_nodes}
 use Rattle.svn_disk.specs.Crashes.{AreNodesOf, OfText, EachText, IsTextIn, IsTextAt}
 use Rattle.svn_folder.specs.States.{Seen}
 use Rattle.svn_folder.specs.Entries.{has_leaf}
@@ -125,6 +125,67 @@ ready_exchanged copy work b c few exchanged ready =
     (λ j small. exchanged_own j b c small exchanged) ready
 
 -- ---- the work of changes
+
+-- of what there is one of, or nothing
+one_all : (p : Work → Bool) (x : Work) (b : Bool) → p x ≡ true → list_all p (if b then x ∷ [] else []) ≡ true
+one_all p x true h = ap (λ c. c && true) h
+one_all p x false h = refl
+
+one_none : (p : Work → Bool) (x : Work) (b : Bool) → p x ≡ false → list_any p (if b then x ∷ [] else []) ≡ false
+one_none p x true h = ap (λ c. c || false) h
+one_none p x false h = refl
+
+each_all : (p : Work → Bool) (g : Path × Change → List Work) → ((entry : Path × Change) → list_all p (g entry) ≡ true) → (changes : List (Path × Change))
+    → list_all p (flat_map g changes) ≡ true
+each_all p g h [] = refl
+each_all p g h (entry ∷ changes) =
+    list_all-append p (g entry) (flat_map g changes) ∙ ap (λ b. b && list_all p (flat_map g changes)) (h entry) ∙ each_all p g h changes
+
+each_none : (p : Work → Bool) (g : Path × Change → List Work) → ((entry : Path × Change) → list_any p (g entry) ≡ false) → (changes : List (Path × Change))
+    → list_any p (flat_map g changes) ≡ false
+each_none p g h [] = refl
+each_none p g h (entry ∷ changes) =
+    list_any-append p (g entry) (flat_map g changes) ∙ ap (λ b. b || list_any p (flat_map g changes)) (h entry) ∙ each_none p g h changes
+
+all_reversed : (p : Work → Bool) (work : List Work) → list_all p work ≡ true → list_all p (reverse work) ≡ true
+all_reversed p [] h = refl
+all_reversed p (x ∷ work) h =
+    let parts = and_parts (p x) (list_all p work) h in
+    ap (list_all p) (reverse-append (x ∷ []) work) ∙ list_all-append p (reverse work) (x ∷ []) ∙ ap (λ b. b && (p x && true)) (all_reversed p work parts.1)
+    ∙ ap (λ b. b && true) parts.0
+
+-- all of the one part goes
+pub all_go : (old : List (Path × BaseNode)) (changes : List (Path × Change)) → list_all is_removal (removals_of old changes) ≡ true
+all_go old changes =
+    list_all-append is_removal (flat_map (removing_file old) changes) (reverse (flat_map (removing_directory old) changes))
+    ∙ ap (λ b. b && list_all is_removal (reverse (flat_map (removing_directory old) changes)))
+    (each_all is_removal (removing_file old) (λ entry. one_all is_removal (RemoveFile entry.0) (goes entry.1 && not (is_dir (get_in old entry.0))) refl) changes)
+    ∙ all_reversed is_removal (flat_map (removing_directory old) changes)
+    (each_all is_removal (removing_directory old) (λ entry. one_all is_removal (RemoveDirectory entry.0) (goes entry.1 && is_dir (get_in old entry.0)) refl) changes)
+
+-- and none of the other
+pub none_go : (new : List (Path × BaseNode)) (changes : List (Path × Change)) → list_any is_removal (makings_of new changes) ≡ false
+none_go new changes =
+    list_any-append is_removal (flat_map (making_directory new) changes) (flat_map (making_file new) changes)
+    ∙ ap (λ b. b || list_any is_removal (flat_map (making_file new) changes))
+    (each_none is_removal (making_directory new) (λ entry. one_none is_removal (MakeDirectory entry.0) (comes entry.1 && is_dir (get_in new entry.0)) refl) changes)
+    ∙ each_none is_removal (making_file new) (λ entry. one_none is_removal (InstallFile entry.0) (comes entry.1 && not (is_dir (get_in new entry.0))) refl) changes
+
+pub parted_of : (task : Task) (old new : List (Path × BaseNode)) (changes : List (Path × Change)) → removals_in task ≡ removals_of old changes
+    → makings_in task ≡ makings_of new changes → IsParted task
+parted_of task old new changes gone made =
+    record { removals = ap (list_all is_removal) gone ∙ all_go old changes; makings = ap (list_any is_removal) made ∙ none_go new changes }
+
+-- one part, and then the other
+pub first_part : (removals makings work : List Work) (k : ℕ) → work ≡ removals ++ makings → k ≡ length removals → take (min k (length work)) work ≡ removals
+first_part removals makings work k is count =
+    ap (take (min k (length work))) is
+    ∙ take_at removals makings (min k (length work)) (let e = ap length is ∙ length-append removals makings in omega (arith, e, count))
+
+pub last_part : (removals makings work : List Work) (k : ℕ) → work ≡ removals ++ makings → k ≡ length removals → drop (min k (length work)) work ≡ makings
+last_part removals makings work k is count =
+    ap (drop (min k (length work))) is
+    ∙ drop_at removals makings (min k (length work)) (let e = ap length is ∙ length-append removals makings in omega (arith, e, count))
 
 pub parts_of : (task : Task) (removals makings : List Work) → removals_in task ≡ removals → makings_in task ≡ makings → task.work.items ≡ removals ++ makings
 parts_of task removals makings gone made =
@@ -234,10 +295,10 @@ each_changed old new all listed (change ∷ changes) left none directories files
 
 -- all of them
 pub changes_done : (old new : List (Path × BaseNode)) (entries : List (Path × Change)) (changes : List PathChange) (left : Seen)
-    → list_all is_removal (removals_of old entries) ≡ true → map (λ (change : PathChange). (change.path, change.change)) changes ≡ entries
+    → map (λ (change : PathChange). (change.path, change.change)) changes ≡ entries
     → EachDone new (removals_of old entries ++ makings_of new entries) (removals_of old entries ++ makings_of new entries) left → AreChanged old new changes left
 unfolding pair_of
-changes_done old new entries changes left parted is done =
+changes_done old new entries changes left is done =
     let E = map pair_of changes in
     let all = removals_of old E ++ makings_of new E in
     let whole : EachDone new all all left = subst (λ (xs : List (Path × Change)). EachDone new (removals_of old xs ++ makings_of new xs) (removals_of old xs ++ makings_of new xs) left)
@@ -250,7 +311,13 @@ changes_done old new entries changes left parted is done =
     let makings = no_makings p new changes free in
     list_any-append (comes_at p) (removals_of old E) (makings_of new E)
     ∙ ap (λ b. b || list_any (comes_at p) (makings_of new E))
-    (no_removal p (removals_of old E) (subst (λ (xs : List (Path × Change)). list_all is_removal (removals_of old xs) ≡ true) (sym is) parted))
+    (no_removal p (removals_of old E) (all_go old E))
     ∙ list_any-append (comes_at p) (flat_map (making_directory new) E) (flat_map (making_file new) E)
     ∙ ap (λ b. b || list_any (comes_at p) (flat_map (making_file new) E)) makings.0 ∙ makings.1)
     coming.0 coming.1 going.0
+
+-- ---- of what is returned
+
+pub on_value : {T : Type 0} → {E : Type 0} → (P Q : T → Type 0) (result : Result T E) → ((value : T) → P value → Q value) → IfOk result P → IfOk result Q
+on_value P Q (Ok value) law h = law value h
+on_value P Q (Err fault) law h = tt
