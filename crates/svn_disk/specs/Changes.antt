@@ -3,6 +3,7 @@
 --     removals_of old changes, makings_of new changes      the work: the files that go, and the directories from below; the directories that come, from above, and
 --         the files
 --     AreChanged old new changes left      each path has what the changes say: the node of the new copy, or no file and no link any more
+--     IsMended h old changes new      a copy was put right, by these changes
 use Rattle.std.specs.Prelude.{◌≡◌, Bool, true, false, ◌&&◌, not, List, [], ◌∷◌, ◌++◌, map, reverse, if◌then◌else◌, Some, ⊤}
 use Rattle.std.specs.List.{flat_map, list_any}
 use Rattle.svn_types.specs.Names.{Path}
@@ -79,7 +80,6 @@ EachChanged old new all (change ∷ changes) left = IsChanged old new all change
 abbrev pub AreChanged : List (Path × BaseNode) → List (Path × BaseNode) → List PathChange → Seen → Type 0
 AreChanged old new changes left = EachChanged old new changes changes left
 
--- a copy was put right, by these changes
 pub record IsMended (h : History) (old : Past) (changes : List PathChange) (new : Past) : Type 0 where
   pub copy : List (Path × BaseNode)
   pub other : List (Path × BaseNode)

@@ -38,7 +38,7 @@
 //!
 //! Definitions, in the order of reading: `specs/Goes.antt` (which steps a call takes), `Places.antt` (where they are), `Plans.antt` (what is written of a
 //! copy), `Tasks.antt` (work in two parts), `Crashes.antt` (what a crash leaves during a checkout, a change and a completion), `Ends.antt` (what a folder shows
-//! once a call is over),
+//! once a call is over), `Changes.antt` (what becomes of each path of a change),
 //! `Readings.antt` (what text of a repository a file on disk may be), `Spared.antt` (what a step replaces or removes), `Queue.antt` (what work is about),
 //! `Laws.antt`.
 //!
@@ -49,8 +49,9 @@
 //! checksum (`IsWhole`). Once it has returned Ok each node of the copy but its root is at its place, with `sync` or without (`AreAtPlaces`): a directory; or a
 //! file with its text, byte for byte, or the link that the text says, each by the checksum of the text.
 //!
-//! Once [`resume`] has completed a copy, all items of its queue are done (`IsCompleted`): where something comes is the node of the copy, as after a checkout,
-//! and where a file goes and nothing comes is no file and no link. A directory that goes stays if something is in it that isn't the copy's.
+//! Once [`bring`] or [`mend`] has returned Ok, each path that it returns is as it says (`AreChanged`, `IsMended`): where something comes is the node of the
+//! new copy, as after a checkout, and where a file goes and nothing comes is no file and no link. Once [`resume`] has completed a copy, all items of its queue
+//! are done in this sense (`IsCompleted`). A directory that goes stays if something is in it that isn't the copy's.
 //!
 //! Each step of [`bring`] is inside of `.svn`, or makes a directory, places what had no name yet, or removes a file or a directory, at the path of a node of
 //! the old copy or of the new one (`is_of_change`), so that nothing else is changed (`a_change_changes_nothing_else`). With `sync`, where the old copy is on
@@ -66,8 +67,8 @@
 //! [`mend`], those of the new copy (`texts_of_either`).
 //!
 //! A crash is one of `svn_folder`, so this is said of folders whose steps are known; of a folder of the system no contract speaks. Not proved, and tested by
-//! `test_disk` at each step: that after a change and a mend the files of the copy are at their places, that a checkout replaces no file, and that the work
-//! which a crash leaves is all that is left to do.
+//! `test_disk` at each step: that a change and a mend return each path that changes, that a checkout replaces no file, and that the work which a crash leaves
+//! is all that is left to do.
 #![tactic(auto)]
 
 mod above;
