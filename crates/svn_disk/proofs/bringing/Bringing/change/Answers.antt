@@ -89,8 +89,9 @@ returns-clause-ends g c = λ parted distinct are files noted.
     let copy = c.args.self.now.wanted.now.copy in
     let task = c.args.task.now in
     let work = makings_in task in
-    let counted : c.len-count.result ≡ length task.work.items = c.len-count.ensures in
-    let few = few_left (min task.removals (length task.work.items)) task.work.items (omega (arith, counted)) in
+    let counted = c.len-count.ensures in
+    let whole = task.work.ok.0 in
+    let few = few_left (min task.removals (length task.work.items)) task.work.items (omega (arith, counted, whole)) in
     let same = subst (AreNodesOf copy) (sym (c.after.ensures.nodes ∙ c.next.ensures.nodes)) are in
     ends_more (AreCarried (codes ".svn") (removals_in task) work)
     (λ a x. AreCopied (codes ".svn") 0 (work_nodes copy work) a → EachDone copy task.work.items task.work.items x) (g.F.Folder.past c.carry_on.new.folder.folder)

@@ -5,6 +5,7 @@ use Rattle.svn_disk.specs.Ends.{IsHeld}
 use Rattle.svn_disk.proofs.Adding.{adds_none, adds_more, adds_some_more}
 use Rattle.svn_disk.proofs.EndsTexts.{none_come, one_comes, all_came}
 use Rattle.svn_disk.proofs.EndsDone.{nodes_rest, nodes_count, nodes_end, work_counts, files_more, files_all}
+use Rattle.svn_disk.proofs.EndsAgain.{number_below}
 use Rattle.svn_disk.proofs.EndsChange.{noted_more, noted_all}
 use Rattle.svn_disk.proofs.bringing.Bringing.prepare_files.Goals as goal
 
@@ -30,9 +31,10 @@ loop-item-preserved g c =
     let k = c.loop-item.item-index in
     let x = c.item-item.result in
     let below : k < length work = omega arith in
-    let small : c.loop-item.number < 2 ^ 64 = omega arith in
     let count = nodes_count copy work in
     let few : length (work_nodes copy work) < 2 ^ 63 = omega (arith, count) in
+    let small = number_below c.args.self.now.admin.now.name (IsHeld c.loop-item.keeping.texts.sizes.entries) c.loop-item.number (work_nodes copy (drop k work))
+    (work_nodes copy work) (g.F.Folder.past c.args.folder.now) (g.F.Folder.past c.loop-item.folder) few c.loop-item.invariant.ends in
     record {
       adds = adds_more c.loop-item.invariant.adds c.in_ok-prepare_one.ensures.adds.0;
       files = files_more copy work k x below c.item-item.is c.loop-item.invariant.files c.in_ok-prepare_one.ensures.file;

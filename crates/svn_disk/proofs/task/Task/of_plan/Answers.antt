@@ -5,9 +5,9 @@ use Rattle.svn_disk.proofs.task.Task.of_plan.Goals as goal
 pub returns-clause-removals : goal.returns-clause-removals
 returns-clause-removals c =
     first_part c.in_ok-work.work.items c.in_ok-makings.makings.items c.append.new.self.items c.len-removals.result c.in_ok-append.ensures.items
-    c.len-removals.ensures ∙ c.in_ok-work.ensures
+    (c.len-removals.ensures ∙ c.in_ok-work.work.ok.0) ∙ c.in_ok-work.ensures
 
 pub returns-clause-makings : goal.returns-clause-makings
 returns-clause-makings c =
     last_part c.in_ok-work.work.items c.in_ok-makings.makings.items c.append.new.self.items c.len-removals.result c.in_ok-append.ensures.items
-    c.len-removals.ensures ∙ c.in_ok-makings.ensures
+    (c.len-removals.ensures ∙ c.in_ok-work.work.ok.0) ∙ c.in_ok-makings.ensures
