@@ -191,11 +191,7 @@ impl<'a> Plan<'a> {
     }
 
     /// Plans the directories that aren't on disk, and that something comes in.
-    pub(crate) fn restore<F: Folder>(
-        &mut self,
-        alloc: Global,
-        folder: &F,
-    ) -> Result<(), DiskFault>
+    pub(crate) fn restore<F: Folder>(&mut self, alloc: Global, folder: &F) -> Result<(), DiskFault>
         ensures copies { (self.new.old ≡ self.old.old) × (self.new.new ≡ self.old.new) }
     {
         for path in self.above_makings(alloc)? {
