@@ -260,8 +260,8 @@ impl Bringing<'_> {
         ensures either { IfOk result (λ task. list_all (λ item. is_either self.now.existing.now.copy self.now.wanted.now.copy (path_of item)) task.work.items ≡ true) }
         ensures parted { IfOk result IsParted }
         ensures distinct { IfOk result (λ task. AreDistinct (makings_in task)) }
-        ensures removals { IfOk result (λ task. removals_in task ≡ removals_of self.now.plan.now.old.now self.now.plan.now.changes.entries) }
-        ensures makings { IfOk result (λ task. makings_in task ≡ makings_of self.now.plan.now.new.now self.now.plan.now.changes.entries) }
+        ensures removals { IfOk result (λ task. removals_in task ≡ removals_of self.now.plan.now.was.now self.now.plan.now.changes.entries) }
+        ensures makings { IfOk result (λ task. makings_in task ≡ makings_of self.now.plan.now.wanted.now self.now.plan.now.changes.entries) }
     {
         let task = Task::of_plan(self.alloc, self.plan)?;
         self.refuse_elsewhere(&task.work)?;
@@ -299,7 +299,7 @@ impl Bringing<'_> {
         requires { self.now.admin.now.name ≡ codes ".svn" }
         ensures steps { Goes (is_of_change self.now.existing.now.copy self.now.wanted.now.copy) (F.past folder.old.folder) result (F.past folder.new.folder) }
         ensures spares { GoesIn (Spares (texts_of_either self.now.existing.now.tables.pristine.items self.now.wanted.now.copy) (codes ".svn")) (F.past folder.old.folder) result (F.past folder.new.folder) }
-        ensures ends { OnOk result (Turns (λ before left. EachDone self.now.wanted.now.copy (removals_of self.now.plan.now.old.now self.now.plan.now.changes.entries ++ makings_of self.now.plan.now.new.now self.now.plan.now.changes.entries) (removals_of self.now.plan.now.old.now self.now.plan.now.changes.entries ++ makings_of self.now.plan.now.new.now self.now.plan.now.changes.entries) left) (F.past folder.old.folder) (F.past folder.new.folder)) }
+        ensures ends { OnOk result (Turns (λ before left. EachDone self.now.wanted.now.copy (removals_of self.now.plan.now.was.now self.now.plan.now.changes.entries ++ makings_of self.now.plan.now.wanted.now self.now.plan.now.changes.entries) (removals_of self.now.plan.now.was.now self.now.plan.now.changes.entries ++ makings_of self.now.plan.now.wanted.now self.now.plan.now.changes.entries) left) (F.past folder.old.folder) (F.past folder.new.folder)) }
         ensures crash { self.now.sync ≡ true → Runs (IsKept self.now.existing.now.copy) (IsOldOrNew self.now.existing.now.copy self.now.wanted.now.copy) (IsKept self.now.wanted.now.copy) (F.past folder.old.folder) result (F.past folder.new.folder) }
     {
         let task = self.task()?;
@@ -325,7 +325,7 @@ fn plan_of<'a, F: Folder>(
     existing: &'a Existing,
     wanted: &'a Wanted,
 ) -> Result<Plan<'a>, DiskFault>
-    ensures { IfOk result (λ plan. (plan.old.now ≡ existing.now.copy) × (plan.new.now ≡ wanted.now.copy)) }
+    ensures { IfOk result (λ plan. (plan.was.now ≡ existing.now.copy) × (plan.wanted.now ≡ wanted.now.copy)) }
 {
     refuse_reserved(&existing.copy)?;
     refuse_reserved(&wanted.copy)?;
@@ -386,7 +386,7 @@ fn bring_by<F: Folder, S: Source>(
 ) -> Result<(), DiskFault>
     ensures steps { Goes (is_of_change what.entry.0.now.copy what.entry.1.now.copy) (F.past folder.old.folder) result (F.past folder.new.folder) }
     ensures spares { GoesIn (Spares (texts_of_either what.entry.0.now.tables.pristine.items what.entry.1.now.copy) (codes ".svn")) (F.past folder.old.folder) result (F.past folder.new.folder) }
-    ensures ends { what.entry.2.now.new.now ≡ what.entry.1.now.copy → OnOk result (Turns (λ before left. EachDone what.entry.1.now.copy (removals_of what.entry.2.now.old.now what.entry.2.now.changes.entries ++ makings_of what.entry.2.now.new.now what.entry.2.now.changes.entries) (removals_of what.entry.2.now.old.now what.entry.2.now.changes.entries ++ makings_of what.entry.2.now.new.now what.entry.2.now.changes.entries) left) (F.past folder.old.folder) (F.past folder.new.folder)) }
+    ensures ends { what.entry.2.now.wanted.now ≡ what.entry.1.now.copy → OnOk result (Turns (λ before left. EachDone what.entry.1.now.copy (removals_of what.entry.2.now.was.now what.entry.2.now.changes.entries ++ makings_of what.entry.2.now.wanted.now what.entry.2.now.changes.entries) (removals_of what.entry.2.now.was.now what.entry.2.now.changes.entries ++ makings_of what.entry.2.now.wanted.now what.entry.2.now.changes.entries) left) (F.past folder.old.folder) (F.past folder.new.folder)) }
     ensures crash { sync ≡ true → Runs (IsKept what.entry.0.now.copy) (IsOldOrNew what.entry.0.now.copy what.entry.1.now.copy) (IsKept what.entry.1.now.copy) (F.past folder.old.folder) result (F.past folder.new.folder) }
 {
     let (existing, wanted, plan) = what;

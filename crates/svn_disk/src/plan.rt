@@ -130,9 +130,9 @@ fn change_of(old: Option<&BaseNode>, new: Option<&BaseNode>) -> Option<Change> {
 #[derive(Drop)]
 pub(crate) struct Plan<'a> {
     /// The copy that is there.
-    pub(crate) old: &'a WorkingCopy,
+    pub(crate) was: &'a WorkingCopy,
     /// The copy that is wanted.
-    pub(crate) new: &'a WorkingCopy,
+    pub(crate) wanted: &'a WorkingCopy,
     /// What becomes of each path at which something does.
     pub(crate) changes: BTreeMap<RelPath, Change>,
 }
@@ -144,11 +144,11 @@ impl<'a> Plan<'a> {
         old: &'a WorkingCopy,
         new: &'a WorkingCopy,
     ) -> Result<Plan<'a>, DiskFault>
-        ensures copies { IfOk result (λ plan. (plan.old.now ≡ old.now) × (plan.new.now ≡ new.now)) }
+        ensures copies { IfOk result (λ plan. (plan.was.now ≡ old.now) × (plan.wanted.now ≡ new.now)) }
     {
         let mut plan = Plan {
-            old,
-            new,
+            was: old,
+            wanted: new,
             changes: BTreeMap::new(alloc),
         };
         plan.note_all(old)?;
@@ -158,10 +158,10 @@ impl<'a> Plan<'a> {
 
     // Notes what becomes of each path of a copy.
     fn note_all(&mut self, copy: &WorkingCopy) -> Result<(), DiskFault>
-        ensures copies { (self.new.old ≡ self.old.old) × (self.new.new ≡ self.old.new) }
+        ensures copies { (self.new.was ≡ self.old.was) × (self.new.wanted ≡ self.old.wanted) }
     {
         for (path, _) in copy.iter() {
-            if let Some(change) = change_of(self.old.get(path), self.new.get(path)) {
+            if let Some(change) = change_of(self.was.get(path), self.wanted.get(path)) {
                 self.changes.insert(path.clone()?, change)?;
             }
         }
@@ -192,7 +192,7 @@ impl<'a> Plan<'a> {
 
     /// Plans the directories that aren't on disk, and that something comes in.
     pub(crate) fn restore<F: Folder>(&mut self, alloc: Global, folder: &F) -> Result<(), DiskFault>
-        ensures copies { (self.new.old ≡ self.old.old) × (self.new.new ≡ self.old.new) }
+        ensures copies { (self.new.was ≡ self.old.was) × (self.new.wanted ≡ self.old.wanted) }
     {
         for path in self.above_makings(alloc)? {
             let is_planned = match self.changes.get(&path) {
@@ -212,7 +212,7 @@ impl<'a> Plan<'a> {
             Some(change) => change.is_on_disk(),
             None => false,
         };
-        match self.new.get(path) {
+        match self.wanted.get(path) {
             Some(node) => node.is_present() && !is_planned,
             None => false,
         }
@@ -220,7 +220,7 @@ impl<'a> Plan<'a> {
 
     /// Plans those of these nodes that stay, since they aren't on disk.
     pub(crate) fn restore_nodes(&mut self, missing: &BTreeSet<RelPath>) -> Result<(), DiskFault>
-        ensures copies { (self.new.old ≡ self.old.old) × (self.new.new ≡ self.old.new) }
+        ensures copies { (self.new.was ≡ self.old.was) × (self.new.wanted ≡ self.old.wanted) }
     {
         for path in missing {
             if self.stays(path) {
@@ -268,9 +268,9 @@ impl<'a> Plan<'a> {
         path: &RelPath,
         change: Change,
     ) -> Result<(), DiskFault>
-        ensures { OnOk result (work.new.items ≡ work.old.items ++ removing_directory self.now.old.now (path.now, change)) }
+        ensures { OnOk result (work.new.items ≡ work.old.items ++ removing_directory self.now.was.now (path.now, change)) }
     {
-        if change.removes() && is_directory(self.old, path) {
+        if change.removes() && is_directory(self.was, path) {
             work.push(Work::RemoveDirectory(path.clone()?))?;
         }
         Ok(())
@@ -278,7 +278,7 @@ impl<'a> Plan<'a> {
 
     // The directories that go.
     fn directories_that_go(&self, alloc: Global) -> Result<Vec<Work>, DiskFault>
-        ensures { IfOk result (λ work. work.items ≡ flat_map (removing_directory self.now.old.now) self.now.changes.entries) }
+        ensures { IfOk result (λ work. work.items ≡ flat_map (removing_directory self.now.was.now) self.now.changes.entries) }
     {
         let mut work = Vec::new(alloc);
         for (path, change) in &self.changes {
@@ -294,9 +294,9 @@ impl<'a> Plan<'a> {
         path: &RelPath,
         change: Change,
     ) -> Result<(), DiskFault>
-        ensures { OnOk result (work.new.items ≡ work.old.items ++ removing_file self.now.old.now (path.now, change)) }
+        ensures { OnOk result (work.new.items ≡ work.old.items ++ removing_file self.now.was.now (path.now, change)) }
     {
-        if change.removes() && !is_directory(self.old, path) {
+        if change.removes() && !is_directory(self.was, path) {
             work.push(Work::RemoveFile(path.clone()?))?;
         }
         Ok(())
@@ -304,7 +304,7 @@ impl<'a> Plan<'a> {
 
     // The files that go.
     fn files_that_go(&self, alloc: Global) -> Result<Vec<Work>, DiskFault>
-        ensures { IfOk result (λ work. work.items ≡ flat_map (removing_file self.now.old.now) self.now.changes.entries) }
+        ensures { IfOk result (λ work. work.items ≡ flat_map (removing_file self.now.was.now) self.now.changes.entries) }
     {
         let mut work = Vec::new(alloc);
         for (path, change) in &self.changes {
@@ -315,7 +315,7 @@ impl<'a> Plan<'a> {
 
     /// The files that go, and then the directories, from below.
     pub(crate) fn removals(&self, alloc: Global) -> Result<Vec<Work>, DiskFault>
-        ensures { IfOk result (λ work. work.items ≡ removals_of self.now.old.now self.now.changes.entries) }
+        ensures { IfOk result (λ work. work.items ≡ removals_of self.now.was.now self.now.changes.entries) }
     {
         let mut work = self.files_that_go(alloc)?;
         let mut directories = self.directories_that_go(alloc)?;
@@ -331,9 +331,9 @@ impl<'a> Plan<'a> {
         path: &RelPath,
         change: Change,
     ) -> Result<(), DiskFault>
-        ensures { OnOk result (work.new.items ≡ work.old.items ++ making_directory self.now.new.now (path.now, change)) }
+        ensures { OnOk result (work.new.items ≡ work.old.items ++ making_directory self.now.wanted.now (path.now, change)) }
     {
-        if change.makes() && is_directory(self.new, path) {
+        if change.makes() && is_directory(self.wanted, path) {
             work.push(Work::MakeDirectory(path.clone()?))?;
         }
         Ok(())
@@ -341,7 +341,7 @@ impl<'a> Plan<'a> {
 
     // The directories that come.
     fn directories_that_come(&self, alloc: Global) -> Result<Vec<Work>, DiskFault>
-        ensures { IfOk result (λ work. work.items ≡ flat_map (making_directory self.now.new.now) self.now.changes.entries) }
+        ensures { IfOk result (λ work. work.items ≡ flat_map (making_directory self.now.wanted.now) self.now.changes.entries) }
     {
         let mut work = Vec::new(alloc);
         for (path, change) in &self.changes {
@@ -357,9 +357,9 @@ impl<'a> Plan<'a> {
         path: &RelPath,
         change: Change,
     ) -> Result<(), DiskFault>
-        ensures { OnOk result (work.new.items ≡ work.old.items ++ making_file self.now.new.now (path.now, change)) }
+        ensures { OnOk result (work.new.items ≡ work.old.items ++ making_file self.now.wanted.now (path.now, change)) }
     {
-        if change.makes() && !is_directory(self.new, path) {
+        if change.makes() && !is_directory(self.wanted, path) {
             work.push(Work::InstallFile(path.clone()?))?;
         }
         Ok(())
@@ -367,7 +367,7 @@ impl<'a> Plan<'a> {
 
     // The files that come, or become others.
     fn files_that_come(&self, alloc: Global) -> Result<Vec<Work>, DiskFault>
-        ensures { IfOk result (λ work. work.items ≡ flat_map (making_file self.now.new.now) self.now.changes.entries) }
+        ensures { IfOk result (λ work. work.items ≡ flat_map (making_file self.now.wanted.now) self.now.changes.entries) }
     {
         let mut work = Vec::new(alloc);
         for (path, change) in &self.changes {
@@ -378,7 +378,7 @@ impl<'a> Plan<'a> {
 
     /// The directories that come, from above, and then the files that come or become others.
     pub(crate) fn makings(&self, alloc: Global) -> Result<Vec<Work>, DiskFault>
-        ensures { IfOk result (λ work. work.items ≡ makings_of self.now.new.now self.now.changes.entries) }
+        ensures { IfOk result (λ work. work.items ≡ makings_of self.now.wanted.now self.now.changes.entries) }
     {
         let mut work = self.directories_that_come(alloc)?;
         let mut files = self.files_that_come(alloc)?;

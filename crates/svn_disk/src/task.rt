@@ -57,8 +57,8 @@ fn is_all_outside(work: &[Work]) -> bool
 impl Task {
     /// That of a plan.
     pub(crate) fn of_plan(alloc: Global, plan: &Plan<'_>) -> Result<Task, DiskFault>
-        ensures removals { IfOk result (λ task. removals_in task ≡ removals_of plan.now.old.now plan.now.changes.entries) }
-        ensures makings { IfOk result (λ task. makings_in task ≡ makings_of plan.now.new.now plan.now.changes.entries) }
+        ensures removals { IfOk result (λ task. removals_in task ≡ removals_of plan.now.was.now plan.now.changes.entries) }
+        ensures makings { IfOk result (λ task. makings_in task ≡ makings_of plan.now.wanted.now plan.now.changes.entries) }
     {
         let mut work = plan.removals(alloc)?;
         let removals = work.len();

@@ -166,15 +166,15 @@ impl Texts {
         ensures adds { IsAdding admin.now.name (F.past folder.old) result (F.past folder.new) }
         ensures stays { OnOk result (Turns (StaysBut (new_text_place admin.now.name) (text_place admin.now.name file.entry.1.now)) (F.past folder.old) (F.past folder.new)) }
     {
-        let (path, name) = file;
-        let sum = sum_of(self.alloc, name)?;
-        if has_text(self.alloc, folder, admin, name)? {
+        let (path, text) = file;
+        let sum = sum_of(self.alloc, text)?;
+        if has_text(self.alloc, folder, admin, text)? {
             return Ok(());
         }
         if source.begin_text(&sum).is_none() {
             return Err(DiskFault::NoText(path.clone()?));
         }
-        self.put(folder, source, admin, name)
+        self.put(folder, source, admin, text)
     }
 
     // Gives a text that was written its name, unless it is there already: a text that is kept is never replaced.

@@ -44,8 +44,8 @@ returns-clause-ends g c =
     let was = g.F.Folder.past c.args.folder.now.folder in
     let now = g.F.Folder.past c.bring_by.new.folder.folder in
     let planned = c.in_ok-bring_by.ensures.ends c.in_ok-plan.ensures.1 in
-    let copies = subst (λ (x : List (Path × BaseNode)). Turns (λ a b. EachDone new (removals_of plan.old.now entries ++ makings_of x entries)
-    (removals_of plan.old.now entries ++ makings_of x entries) b) was now) c.in_ok-plan.ensures.1 planned in
+    let copies = subst (λ (x : List (Path × BaseNode)). Turns (λ a b. EachDone new (removals_of plan.was.now entries ++ makings_of x entries)
+    (removals_of plan.was.now entries ++ makings_of x entries) b) was now) c.in_ok-plan.ensures.1 planned in
     let done = subst (λ (x : List (Path × BaseNode)). Turns (λ a b. EachDone new (removals_of x entries ++ makings_of new entries)
     (removals_of x entries ++ makings_of new entries) b) was now) c.in_ok-plan.ensures.0 copies in
     on_value (λ (list : Vec PathChange Global). map (λ (change : PathChange). (change.path, change.change)) list.items ≡ entries)

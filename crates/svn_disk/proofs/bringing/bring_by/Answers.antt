@@ -24,8 +24,8 @@ returns-in_err-admin-clause-crash g c = λ sync.
 pub returns-then-is_empty-clause-ends : goal.returns-then-is_empty-clause-ends
 returns-then-is_empty-clause-ends g c = λ is.
     let copy = c.args.what.1.now.copy in
-    let old = c.args.what.2.now.old.now in
-    let new = c.args.what.2.now.new.now in
+    let old = c.args.what.2.now.was.now in
+    let new = c.args.what.2.now.wanted.now in
     let now = g.F.Folder.past c.args.folder.now.folder in
     subst (λ (xs : List (Path × Change)). Turns (λ a b. EachDone copy (removals_of old xs ++ makings_of new xs) (removals_of old xs ++ makings_of new xs) b) now now)
     (sym (c.is_empty.ensures c.if-branch.true)) (turns_none (λ a b. EachDone copy [] [] b) now (λ a. tt))

@@ -2,4 +2,4 @@ use Rattle.std.proofs.Common.{◌≡◌}
 use Rattle.svn_disk.proofs.plan.Plan.note_all.Given as goal
 
 abbrev pub invariant-loop-path : goal.invariant-loop-path
-invariant-loop-path l = (l.self.old ≡ l.fn.self.old) × (l.self.new ≡ l.fn.self.new)
+invariant-loop-path l = (l.self.was ≡ l.fn.self.was) × (l.self.wanted ≡ l.fn.self.wanted)
