@@ -1,4 +1,4 @@
-use Rattle.std.proofs.Common.{List, [], ◌++◌, subst, sym, ◌∙◌, rules}
+use Rattle.std.proofs.Common.{List, [], ◌++◌, refl, subst, sym, ◌∙◌, rules}
 use Rattle.svn_disk.proofs.NodeEquality.{same_nodes}
 use Rattle.svn_disk.proofs.Copies.{kept_none, same_leads}
 use Rattle.std.specs.Prelude.{OnOk}
@@ -28,4 +28,4 @@ returns-then-is_empty-clause-ends g c = λ is.
     let new = c.args.what.2.now.wanted.now in
     let now = g.F.Folder.past c.args.folder.now.folder in
     subst (λ (xs : List (Path × Change)). Turns (λ a b. EachDone copy (removals_of old xs ++ makings_of new xs) (removals_of old xs ++ makings_of new xs) b) now now)
-    (sym (c.is_empty.ensures c.if-branch.true)) (turns_none (λ a b. EachDone copy [] [] b) now (λ a. tt))
+    (sym (c.if-is_empty.ensures refl)) (turns_none (λ a b. EachDone copy [] [] b) now (λ a. tt))

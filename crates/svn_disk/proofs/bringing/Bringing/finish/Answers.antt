@@ -1,4 +1,4 @@
-use Rattle.std.proofs.Common.{List, subst, sym}
+use Rattle.std.proofs.Common.{List, refl, subst, sym}
 use Rattle.std.specs.Prelude.{codes, ⊤}
 use Rattle.svn_wcrows.specs.declared.work.Work.{Work}
 use Rattle.svn_disk.specs.Places.{is_either}
@@ -24,7 +24,7 @@ pub returns-then-is_empty-clause-ends : goal.returns-then-is_empty-clause-ends
 returns-then-is_empty-clause-ends g c = λ parted distinct are files noted.
     let copy = c.args.self.now.wanted.now.copy in
     let task = c.args.task.now in
-    let none = c.is_empty.ensures c.if-branch.true in
+    let none = c.if-is_empty.ensures refl in
     ends_along (λ a b. ⊤) (λ a b. AreCopied (codes ".svn") 0 (work_nodes copy (makings_in task)) a → EachDone copy task.work.items task.work.items b)
     (g.F.Folder.past c.args.folder.now.folder) (g.F.Folder.past c.record.new.folder.folder) c.record.result
     (λ a b nothing copied. subst (λ (xs : List Work). EachDone copy xs xs b) (sym none) tt) (c.record.ensures.ends copy are)

@@ -15,8 +15,8 @@ returns-in_err-has_text-clause-adds g c =
     let none = adds_none c.args.admin.now.name (g.F.Folder.past c.args.folder.now) in
     let some = adds_some_none c.args.admin.now.name (g.F.Folder.past c.args.folder.now) in search rules
 
-pub returns-then-has_text-clause-adds : goal.returns-then-has_text-clause-adds
-returns-then-has_text-clause-adds g c =
+pub returns-then-branch-clause-adds : goal.returns-then-branch-clause-adds
+returns-then-branch-clause-adds g c =
     let none = adds_none c.args.admin.now.name (g.F.Folder.past c.args.folder.now) in
     let some = adds_some_none c.args.admin.now.name (g.F.Folder.past c.args.folder.now) in search rules
 
@@ -30,7 +30,7 @@ returns-then-is_none-clause-adds g c =
     let none = adds_none c.args.admin.now.name (g.F.Folder.past c.args.folder.now) in
     let some = adds_some_none c.args.admin.now.name (g.F.Folder.past c.args.folder.now) in search rules
 
-pub returns-then-has_text-clause-stays : goal.returns-then-has_text-clause-stays
-returns-then-has_text-clause-stays g c =
+pub returns-then-branch-clause-stays : goal.returns-then-branch-clause-stays
+returns-then-branch-clause-stays g c =
     turns_none (StaysBut (new_text_place c.args.admin.now.name) (text_place c.args.admin.now.name c.args.file.1.now)) (g.F.Folder.past c.args.folder.now)
     (λ a r some other apart. refl)
