@@ -1,5 +1,7 @@
-use Rattle.std.proofs.Common.{◌≡◌, List, ap, sym, subst, rules}
-use Rattle.std.specs.Prelude.{⊤}
+use Rattle.std.proofs.Common.{◌≡◌, ℕ, List, sym, subst, rules}
+use Rattle.std.specs.Prelude.{Option, ⊤}
+use Rattle.std.specs.BTreeMap.{BTreeMap}
+use Rattle.svn_types.specs.Names.{Path}
 use Rattle.svn_wcrows.specs.declared.work.Work.{Work}
 use Rattle.svn_disk.specs.Places.{is_temporary}
 use Rattle.svn_disk.specs.Tasks.{makings_in, work_nodes}
@@ -42,7 +44,7 @@ returns-clause-noted g c =
     let work = makings_in c.args.task.now in
     let noted = subst (λ (xs : List Work). AreNoted keeping.sizes.entries xs) c.makings.ensures.same c.in_ok-prepare_files.ensures.noted in
     on_value (λ (ready : Ready). ready.sizes ≡ keeping.sizes) (λ (ready : Ready). AreNoted ready.sizes.entries work) c.images.result
-    (λ ready is. subst (λ sizes. AreNoted sizes.entries work) (sym is) noted) c.images.ensures.sizes
+    (λ ready is. subst (λ (sizes : BTreeMap Path (Option ℕ)). AreNoted sizes.entries work) (sym is) noted) c.images.ensures.sizes
 
 pub returns-clause-ends : goal.returns-clause-ends
 returns-clause-ends g c =
