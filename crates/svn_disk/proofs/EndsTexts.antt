@@ -139,13 +139,19 @@ copy_comes n i t a b stands copies =
 
 -- a text is kept, and its file comes
 pub file_comes : (n : Name) (sizes : List (List ℕ × ℕ)) (i r : ℕ) (q : Path) (t : List ℕ) (ps : List (List ℕ × List ℕ)) (a b c : Seen) → i < 2 ^ 64 → is_stand_in t ≡ true
-    → KeepsText n sizes t a b → CopiesText (text_place n t) (own_place n i) b c → CopiesNode n i sizes (FileNode r q t ps) a c
+    → KeepsText n sizes t a b → CopiesText (text_place n t) (own_place n i) b c → CopiesNode n i (IsHeld sizes) (FileNode r q t ps) a c
 file_comes n sizes i r q t ps a b c small stands keeps copies = record {
   earlier = λ j name below held copy.
       copy_beside n i j name t b c small below copies
       (copy_stays n sizes j name t a b (let k : j < i = below in omega (arith, k, small)) keeps held copy);
   comes = copy_comes n i t b c stands copies;
 }
+
+-- the same where all texts stay
+pub file_copied : (n : Name) (P : List ℕ → Type 0) (i r : ℕ) (q : Path) (t : List ℕ) (ps : List (List ℕ × List ℕ)) (a b : Seen) → i < 2 ^ 64 → is_stand_in t ≡ true
+    → CopiesText (text_place n t) (own_place n i) a b → CopiesNode n i P (FileNode r q t ps) a b
+file_copied n P i r q t ps a b small stands copies =
+    record { earlier = λ j name below held copy. copy_beside n i j name t a b small below copies copy; comes = copy_comes n i t a b stands copies }
 
 -- ---- all files of some nodes
 
@@ -162,19 +168,19 @@ count_at_most (entry ∷ nodes) = let e = count_at_most nodes in let k = at_most
     at_most (DirNode r q c ps) = omega arith
     at_most NotPresent = omega arith
 
-copied_one_kept : (n : Name) (sizes : List (List ℕ × ℕ)) (i number : ℕ) (one node : BaseNode) (b c : Seen) → i + files_at one ≤ number
-    → OfText (IsHeld sizes) one → CopiesNode n number sizes node b c → IsCopied n i one b → IsCopied n i one c
-copied_one_kept n sizes i number (FileNode r q t ps) node b c low held copies is =
+copied_one_kept : (n : Name) (P : List ℕ → Type 0) (i number : ℕ) (one node : BaseNode) (b c : Seen) → i + files_at one ≤ number
+    → OfText P one → CopiesNode n number P node b c → IsCopied n i one b → IsCopied n i one c
+copied_one_kept n P i number (FileNode r q t ps) node b c low held copies is =
     copies.earlier i t (let k : i + 1 ≤ number = low in omega (arith, k)) held is
-copied_one_kept n sizes i number (DirNode r q c' ps) node b c low held copies is = tt
-copied_one_kept n sizes i number NotPresent node b c low held copies is = tt
+copied_one_kept n P i number (DirNode r q c' ps) node b c low held copies is = tt
+copied_one_kept n P i number NotPresent node b c low held copies is = tt
 
-copied_kept : (n : Name) (sizes : List (List ℕ × ℕ)) (i number : ℕ) (done : List (Path × BaseNode)) (node : BaseNode) (b c : Seen) → i + count_at done ≤ number
-    → EachText (IsHeld sizes) done → CopiesNode n number sizes node b c → AreCopied n i done b → AreCopied n i done c
-copied_kept n sizes i number [] node b c low held copies are = tt
-copied_kept n sizes i number (entry ∷ done) node b c low held copies are = (
-  copied_one_kept n sizes i number entry.1 node b c (let k : i + (files_at entry.1 + count_at done) ≤ number = low in omega (arith, k)) held.0 copies are.0,
-  copied_kept n sizes (i + files_at entry.1) number done node b c (let k : i + (files_at entry.1 + count_at done) ≤ number = low in omega (arith, k))
+copied_kept : (n : Name) (P : List ℕ → Type 0) (i number : ℕ) (done : List (Path × BaseNode)) (node : BaseNode) (b c : Seen) → i + count_at done ≤ number
+    → EachText P done → CopiesNode n number P node b c → AreCopied n i done b → AreCopied n i done c
+copied_kept n P i number [] node b c low held copies are = tt
+copied_kept n P i number (entry ∷ done) node b c low held copies are = (
+  copied_one_kept n P i number entry.1 node b c (let k : i + (files_at entry.1 + count_at done) ≤ number = low in omega (arith, k)) held.0 copies are.0,
+  copied_kept n P (i + files_at entry.1) number done node b c (let k : i + (files_at entry.1 + count_at done) ≤ number = low in omega (arith, k))
       held.1 copies are.1,
 )
 
@@ -184,12 +190,12 @@ copied_next n i [] p node c are is = (subst (λ (j : ℕ). IsCopied n j node c) 
 copied_next n i (entry ∷ done) p node c are is =
     (are.0, copied_next n (i + files_at entry.1) done p node c are.1 (subst (λ (j : ℕ). IsCopied n j node c) (omega arith) is))
 
-held_more : (sizes more : List (List ℕ × ℕ)) (done : List (Path × BaseNode)) (p : Path) (node : BaseNode)
-    → ((name : List ℕ) → IsHeld sizes name → IsHeld more name) → EachText (IsHeld sizes) done → OfText (IsHeld more) node → EachText (IsHeld more) (done ++ (p, node) ∷ [])
-held_more sizes more [] p node wider held here = (here, tt)
-held_more sizes more (entry ∷ done) p node wider held here = (one entry.1 held.0, held_more sizes more done p node wider held.1 here)
+held_more : (P Q : List ℕ → Type 0) (done : List (Path × BaseNode)) (p : Path) (node : BaseNode)
+    → ((name : List ℕ) → P name → Q name) → EachText P done → OfText Q node → EachText Q (done ++ (p, node) ∷ [])
+held_more P Q [] p node wider held here = (here, tt)
+held_more P Q (entry ∷ done) p node wider held here = (one entry.1 held.0, held_more P Q done p node wider held.1 here)
   where
-    one : (x : BaseNode) → OfText (IsHeld sizes) x → OfText (IsHeld more) x
+    one : (x : BaseNode) → OfText P x → OfText Q x
     one (FileNode r q t ps) h = wider t h
     one (DirNode r q c ps) h = tt
     one NotPresent h = tt
@@ -206,11 +212,11 @@ length_parts (entry ∷ done) rest all same =
     omega (arith, e, k)
 
 -- some nodes have come, and others wait
-pub record AreComing (n : Name) (sizes : List (List ℕ × ℕ)) (files : ℕ) (rest all : List (Path × BaseNode)) (old new : Past) : Type 0 where
+pub record AreComing (n : Name) (P : List ℕ → Type 0) (files : ℕ) (rest all : List (Path × BaseNode)) (old new : Past) : Type 0 where
   pub done : List (Path × BaseNode)
   pub split : done ++ rest ≡ all
   pub count : files ≡ count_at done
-  pub held : EachText (IsHeld sizes) done
+  pub held : EachText P done
   pub ends : Turns (λ a b. AreCopied n 0 done b) old new
 
 number_small : (node : BaseNode) (files : ℕ) → files < 2 ^ 64 - 1 → number_after node files ≡ files + files_at node
@@ -218,16 +224,16 @@ number_small (FileNode r q t ps) files small = omega (arith, small)
 number_small (DirNode r q c ps) files small = omega arith
 number_small NotPresent files small = omega arith
 
-pub none_come : (n : Name) (sizes : List (List ℕ × ℕ)) (files : ℕ) (rest all : List (Path × BaseNode)) (now : Past) → rest ≡ all → files ≡ 0
-    → AreComing n sizes files rest all now now
-none_come n sizes files rest all now same none =
+pub none_come : (n : Name) (P : List ℕ → Type 0) (files : ℕ) (rest all : List (Path × BaseNode)) (now : Past) → rest ≡ all → files ≡ 0
+    → AreComing n P files rest all now now
+none_come n P files rest all now same none =
     record { done = []; split = same; count = none; held = tt; ends = turns_none (λ a b. ⊤) now (λ a. tt) }
 
-pub one_comes : (n : Name) (sizes more : List (List ℕ × ℕ)) (files next : ℕ) (rest after all : List (Path × BaseNode)) (p : Path) (node : BaseNode) (old now new : Past)
-    → length all < 2 ^ 63 → rest ≡ (p, node) ∷ after → next ≡ number_after node files → OfText (IsHeld more) node
-    → ((name : List ℕ) → IsHeld sizes name → IsHeld more name) → Turns (CopiesNode n files sizes node) now new → AreComing n sizes files rest all old now
-    → AreComing n more next after all old new
-one_comes n sizes more files next rest after all p node old now new small here count held wider copies first =
+pub one_comes : (n : Name) (P Q : List ℕ → Type 0) (files next : ℕ) (rest after all : List (Path × BaseNode)) (p : Path) (node : BaseNode) (old now new : Past)
+    → length all < 2 ^ 63 → rest ≡ (p, node) ∷ after → next ≡ number_after node files → OfText Q node
+    → ((name : List ℕ) → P name → Q name) → Turns (CopiesNode n files P node) now new → AreComing n P files rest all old now
+    → AreComing n Q next after all old new
+one_comes n P Q files next rest after all p node old now new small here count held wider copies first =
     let whole : first.done ++ (p, node) ∷ after ≡ all = ap (λ xs. first.done ++ xs) (sym here) ∙ first.split in
     let few : count_at first.done ≤ length all =
     (let a = count_at_most first.done in let b = length_parts first.done ((p, node) ∷ after) all whole in omega (arith, a, b)) in
@@ -237,18 +243,18 @@ one_comes n sizes more files next rest after all p node old now new small here c
       done = first.done ++ (p, node) ∷ [];
       split = append_assoc first.done ((p, node) ∷ []) after ∙ whole;
       count = (let e = count_more first.done p node in omega (arith, count, e, count_is, number));
-      held = held_more sizes more first.done p node wider first.held held;
+      held = held_more P Q first.done p node wider first.held held;
       ends = turns_more (λ a c. AreCopied n 0 (first.done ++ (p, node) ∷ []) c)
           (λ a b c done copy.
           copied_next n 0 first.done p node c
-          (copied_kept n sizes 0 files first.done node b c (let k = first.count in omega (arith, k)) first.held copy done)
+          (copied_kept n P 0 files first.done node b c (let k = first.count in omega (arith, k)) first.held copy done)
           (subst (λ (j : ℕ). IsCopied n j node c) (let k = first.count in omega (arith, k)) copy.comes))
           first.ends copies;
     }
 
-pub all_came : (n : Name) (sizes : List (List ℕ × ℕ)) (files : ℕ) (rest all : List (Path × BaseNode)) (old new : Past) → rest ≡ [] → AreComing n sizes files rest all old new
+pub all_came : (n : Name) (P : List ℕ → Type 0) (files : ℕ) (rest all : List (Path × BaseNode)) (old new : Past) → rest ≡ [] → AreComing n P files rest all old new
     → Turns (λ a b. AreCopied n 0 all b) old new
-all_came n sizes files rest all old new none coming =
+all_came n P files rest all old new none coming =
     subst (λ (xs : List (Path × BaseNode)). Turns (λ a b. AreCopied n 0 xs b) old new)
     (sym (append-nil coming.done) ∙ ap (λ (xs : List (Path × BaseNode)). coming.done ++ xs) (sym none) ∙ coming.split) coming.ends
 
@@ -318,13 +324,25 @@ in_some d None = d
 
 module _ (node : BaseNode) (t : List ℕ) (is : Some t ≡ text_of_node node) where
   pub node_comes : (n : Name) (sizes : List (List ℕ × ℕ)) (i : ℕ) (a b c : Seen) → i < 2 ^ 64 → is_stand_in t ≡ true → KeepsText n sizes t a b
-      → CopiesText (text_place n t) (own_place n i) b c → CopiesNode n i sizes node a c
+      → CopiesText (text_place n t) (own_place n i) b c → CopiesNode n i (IsHeld sizes) node a c
   unfolding in_some
   node_comes n sizes i a b c small stands keeps copies = by node is
     where
-      by : (x : BaseNode) → Some t ≡ text_of_node x → CopiesNode n i sizes x a c
+      by : (x : BaseNode) → Some t ≡ text_of_node x → CopiesNode n i (IsHeld sizes) x a c
       by (FileNode r q u ps) e =
-          subst (λ (v : List ℕ). CopiesNode n i sizes (FileNode r q v ps) a c) (ap (in_some t) e) (file_comes n sizes i r q t ps a b c small stands keeps copies)
+          subst (λ (v : List ℕ). CopiesNode n i (IsHeld sizes) (FileNode r q v ps) a c) (ap (in_some t) e) (file_comes n sizes i r q t ps a b c small stands keeps copies)
+      by (DirNode r q u ps) e = absurd (true≢false (ap is_some e))
+      by NotPresent e = absurd (true≢false (ap is_some e))
+
+  -- the same where all texts stay
+  pub node_copied : (n : Name) (P : List ℕ → Type 0) (i : ℕ) (a b : Seen) → i < 2 ^ 64 → is_stand_in t ≡ true → CopiesText (text_place n t) (own_place n i) a b
+      → CopiesNode n i P node a b
+  unfolding in_some
+  node_copied n P i a b small stands copies = by node is
+    where
+      by : (x : BaseNode) → Some t ≡ text_of_node x → CopiesNode n i P x a b
+      by (FileNode r q u ps) e =
+          subst (λ (v : List ℕ). CopiesNode n i P (FileNode r q v ps) a b) (ap (in_some t) e) (file_copied n P i r q t ps a b small stands copies)
       by (DirNode r q u ps) e = absurd (true≢false (ap is_some e))
       by NotPresent e = absurd (true≢false (ap is_some e))
 
@@ -336,21 +354,21 @@ module _ (node : BaseNode) (t : List ℕ) (is : Some t ≡ text_of_node node) wh
       by (DirNode r q u ps) e = absurd (true≢false (ap is_some e))
       by NotPresent e = absurd (true≢false (ap is_some e))
 
-  pub node_held : (sizes : List (List ℕ × ℕ)) → IsHeld sizes t → OfText (IsHeld sizes) node
+  pub node_held : (P : List ℕ → Type 0) → P t → OfText P node
   unfolding in_some
-  node_held sizes held = by node is
+  node_held P held = by node is
     where
-      by : (x : BaseNode) → Some t ≡ text_of_node x → OfText (IsHeld sizes) x
-      by (FileNode r q u ps) e = subst (IsHeld sizes) (ap (in_some t) e) held
+      by : (x : BaseNode) → Some t ≡ text_of_node x → OfText P x
+      by (FileNode r q u ps) e = subst P (ap (in_some t) e) held
       by (DirNode r q u ps) e = tt
       by NotPresent e = tt
 
 -- one that is no file
 module _ (node : BaseNode) (is : text_of_node node ≡ None) where
-  pub none_copied : (n : Name) (sizes : List (List ℕ × ℕ)) (i : ℕ) (a : Seen) → CopiesNode n i sizes node a a
-  none_copied n sizes i a = by node is
+  pub none_copied : (n : Name) (P : List ℕ → Type 0) (i : ℕ) (a : Seen) → CopiesNode n i P node a a
+  none_copied n P i a = by node is
     where
-      by : (x : BaseNode) → text_of_node x ≡ None → CopiesNode n i sizes x a a
+      by : (x : BaseNode) → text_of_node x ≡ None → CopiesNode n i P x a a
       by (FileNode r q u ps) e = absurd (true≢false (ap is_some e))
       by (DirNode r q u ps) e = record { earlier = λ j name below held copy. copy; comes = tt }
       by NotPresent e = record { earlier = λ j name below held copy. copy; comes = tt }
@@ -363,10 +381,10 @@ module _ (node : BaseNode) (is : text_of_node node ≡ None) where
       by (DirNode r q u ps) e = refl
       by NotPresent e = refl
 
-  pub none_held : (sizes : List (List ℕ × ℕ)) → OfText (IsHeld sizes) node
-  none_held sizes = by node is
+  pub none_held : (P : List ℕ → Type 0) → OfText P node
+  none_held P = by node is
     where
-      by : (x : BaseNode) → text_of_node x ≡ None → OfText (IsHeld sizes) x
+      by : (x : BaseNode) → text_of_node x ≡ None → OfText P x
       by (FileNode r q u ps) e = absurd (true≢false (ap is_some e))
       by (DirNode r q u ps) e = tt
       by NotPresent e = tt
@@ -377,8 +395,8 @@ dir_no_text (DirNode r q u ps) h = refl
 dir_no_text NotPresent h = refl
 
 -- nothing is done
-pub none_turns : (n : Name) (sizes : List (List ℕ × ℕ)) (i : ℕ) (node : BaseNode) (now : Past) → text_of_node node ≡ None → Turns (CopiesNode n i sizes node) now now
-none_turns n sizes i node now is = turns_none (CopiesNode n i sizes node) now (none_copied node is n sizes i)
+pub none_turns : (n : Name) (P : List ℕ → Type 0) (i : ℕ) (node : BaseNode) (now : Past) → text_of_node node ≡ None → Turns (CopiesNode n i P node) now now
+none_turns n P i node now is = turns_none (CopiesNode n i P node) now (none_copied node is n P i)
 
 pub count_none : (node : BaseNode) (files : ℕ) → text_of_node node ≡ None → files ≡ number_after node files
 count_none (FileNode r q u ps) files is = absurd (true≢false (ap is_some is))

@@ -18,7 +18,7 @@ use Rattle.svn_folder.specs.declared.entry.Entry.TheVariants.{Directory}
 use Rattle.svn_folder.specs.States.{Seen}
 use Rattle.svn_disk.specs.Places.{is_outside}
 use Rattle.svn_disk.specs.Plans.{path_of}
-use Rattle.svn_disk.specs.Ends.{own_place, files_of, IsPlaced, ArePlaced, AreDistinct, IsDirectoryOf, AreDirectories, IsMoved, IsSame, AreMade, IsOneMade, IsOnePlaced}
+use Rattle.svn_disk.specs.Ends.{own_place, files_of, IsPlaced, ArePlaced, AreDistinct, IsDirectoryOf, AreDirectories, IsMoved, IsSame, AreMade, IsOneMade, IsOnePlaced, AreOthers, AreDone}
 
 abbrev svn : Name
 svn = codes ".svn"
@@ -133,6 +133,14 @@ placed_from n i (item ∷ work) a b c same are =
 
 -- ---- directories are made
 
+-- a path that no item is about is one that no earlier item is about, nor the last
+pub none_before : (q : Path) (some : List Work) (x : Work) → list_any (λ item. path_eq (path_of item) q) (some ++ x ∷ []) ≡ false
+    → (list_any (λ item. path_eq (path_of item) q) some ≡ false) × (path_eq (path_of x) q ≡ false)
+none_before q some x none =
+    let parts = or_parts (list_any (λ item. path_eq (path_of item) q) some) (list_any (λ item. path_eq (path_of item) q) (x ∷ []))
+    (sym (list_any-append (λ item. path_eq (path_of item) q) some (x ∷ [])) ∙ none) in
+    (parts.0, (or_parts (path_eq (path_of x) q) false parts.1).0)
+
 dirs_more : (some : List Work) (x : Work) (b : Seen) → AreDirectories some b → IsDirectoryOf x b → AreDirectories (some ++ x ∷ []) b
 dirs_more [] x b are is = (is, tt)
 dirs_more (item ∷ some) x b are is = (are.0, dirs_more some x b are.1 is)
@@ -169,10 +177,7 @@ made_more some x a b c first made =
     let here = one_made x b c made in
     record {
       made = dirs_more some x c (all_stay some x b c made first.made) here.0;
-      others = λ q other.
-          let parts = or_parts (list_any (λ item. path_eq (path_of item) q) some) (list_any (λ item. path_eq (path_of item) q) (x ∷ []))
-          (sym (list_any-append (λ item. path_eq (path_of item) q) some (x ∷ [])) ∙ other) in
-          here.1 q (or_parts (path_eq (path_of x) q) false parts.1).0 ∙ first.others q parts.0;
+      others = λ q other. let parts = none_before q some x other in here.1 q parts.1 ∙ first.others q parts.0;
     }
 
 -- ---- files get their places
@@ -216,9 +221,10 @@ pub record HasPlaced (some rest : List Work) (a b : Seen) : Type 0 where
   pub placed : ArePlaced svn 0 some a b
   pub directories : AreDirectories rest b
   pub waiting : (j : ℕ) → count_files some ≤ j → j < 2 ^ 64 → b (own_place svn j) ≡ a (own_place svn j)
+  pub others : AreOthers some a b
 
 pub placed_none : (work : List Work) (a : Seen) → AreDirectories work a → HasPlaced [] work a a
-placed_none work a are = record { placed = tt; directories = are; waiting = λ j low high. refl }
+placed_none work a are = record { placed = tt; directories = are; waiting = λ j low high. refl; others = λ q outside none. refl }
 
 module _ (some rest : List Work) (x : Work) (a b c : Seen) (first : HasPlaced some (x ∷ rest) a b) where
   -- nothing is done
@@ -227,6 +233,7 @@ module _ (some rest : List Work) (x : Work) (a b c : Seen) (first : HasPlaced so
     placed = placed_next svn 0 some x a c (placed_kept svn 0 some a b c (each_of_all (λ q. c q ≡ b q) same some) first.placed) is;
     directories = dirs_kept rest b c (each_of_all (λ q. c q ≡ b q) same rest) first.directories.1;
     waiting = λ j low high. same (own_place svn j) ∙ first.waiting j (let e = count_more some x in omega (arith, e, none, low)) high;
+    others = λ q outside apart. same q ∙ first.others q outside (none_before q some x apart).0;
   }
 
 module _ (some rest : List Work) (p : Path) (a b c : Seen) (first : HasPlaced some (InstallFile p ∷ rest) a b)
@@ -266,6 +273,8 @@ module _ (some rest : List Work) (p : Path) (a b c : Seen) (first : HasPlaced so
     directories = dirs_kept rest b c rest_same first.directories.1;
     waiting = λ j low high.
         waits j low high ∙ first.waiting j (let e = count_more some (InstallFile p) in omega (arith, e, low)) high;
+    others = λ q out apart.
+        let parts = none_before q some (InstallFile p) apart in apart_path q (parts.1, out) ∙ first.others q out parts.0;
   }
 
 pub placed_more : (some rest : List Work) (x : Work) (a b c : Seen) → AreDistinct (some ++ x ∷ rest)
@@ -340,8 +349,28 @@ all_done work a b c outside made placed =
     (each_all is_outside work outside))))
     (placed made.made)
 
+-- the same with what is elsewhere
+pub all_placed_done : (work : List Work) (k : ℕ) (a b : Seen) → k ≡ length work → HasPlaced (take k work) (drop k work) a b → AreDone svn work a b
+all_placed_done work k a b is first = record {
+  placed = all_placed work k a b is first;
+  others = subst (λ (xs : List Work). AreOthers xs a b) (ap (λ j. take j work) is ∙ take-length work) first.others;
+}
+
+pub made_done : (work : List Work) (a b c : Seen) → list_all (λ item. is_outside (path_of item)) work ≡ true → AreMade work a b
+    → (AreDirectories work b → AreDone svn work b c) → AreDone svn work a c
+made_done work a b c outside made done =
+    let all = done made.made in
+    record {
+      placed = all_done work a b c outside made (λ are. all.placed);
+      others = λ q out none. all.others q out none ∙ made.others q none;
+    }
+
 pub done_same : (work : List Work) (a b c : Seen) → ArePlaced svn 0 work a b → IsSame b c → ArePlaced svn 0 work a c
 done_same work a b c placed same = placed_kept svn 0 work a b c (each_of_all (λ q. c q ≡ b q) same work) placed
+
+pub done_still : (work : List Work) (a b c : Seen) → AreDone svn work a b → IsSame b c → AreDone svn work a c
+done_still work a b c done same =
+    record { placed = done_same work a b c done.placed same; others = λ q out none. same q ∙ done.others q out none }
 
 -- what changes is in the administrative folder
 abbrev pub IsSameOutside : Seen → Seen → Type 0

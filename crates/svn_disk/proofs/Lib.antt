@@ -36,6 +36,12 @@ pub mod Ends
 pub mod EndsWork
 -- files under names of their own
 pub mod EndsTexts
+-- work, carried out: what goes, and then what comes
+pub mod EndsDone
+-- a completion, and what is shown then
+pub mod EndsAgain
+-- a change, and what is shown then
+pub mod EndsChange
 -- the nodes of a copy at their places
 pub mod EndsCopy
 -- texts that are written in another way

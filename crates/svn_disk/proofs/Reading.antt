@@ -137,7 +137,7 @@ no_more P now copy rest is before s steps known = before s steps known (subst (E
 
 -- ---- all of it
 
-each_present : (P : List ℕ → Type 0) (copy : List (Path × BaseNode)) → EachText P copy → EachText P (present_nodes copy)
+pub each_present : (P : List ℕ → Type 0) (copy : List (Path × BaseNode)) → EachText P copy → EachText P (present_nodes copy)
 each_present P [] h = tt
 each_present P ((p, FileNode r q t ps) ∷ copy) h = (h.0, each_present P copy h.1)
 each_present P ((p, DirNode r q c ps) ∷ copy) h = (tt, each_present P copy h.1)

@@ -7,8 +7,10 @@
 --     own_place n i      the file of that number, before it has its place
 --     ArePlaced n i work before left      what work makes is there: a directory, or what was under the file's own name before, from that number on
 --     AreReady n i copy left      each file of a copy is under its own name, from that number on, with its text
+--     AreCarried work removals before left      what comes is there, and where a file goes and nothing comes is no file and no link
+--     IsCompleted rows copy left      all work that these rows of the queue are is done, and each file that comes has the text of the copy
 --     AreCopied n i copy left      it is there as its pristine text is, whatever that is
-use Rattle.std.specs.Prelude.{◌≡◌, ℕ, ◌+◌, ◌-◌, ◌<◌, ◌^◌, min, true, false, List, [], ◌∷◌, ◌++◌, drop, codes, Option, Some, None, is_some, Ok, ⊤}
+use Rattle.std.specs.Prelude.{◌≡◌, ◌⊎◌, ℕ, Bool, ◌+◌, ◌-◌, ◌<◌, ◌^◌, min, true, false, List, [], ◌∷◌, ◌++◌, drop, codes, Option, Some, None, is_some, Ok, ⊤}
 use Rattle.std.specs.BTreeMap.{is_at}
 use Rattle.std.specs.Cmp.Lexicographic.{slice_cmp}
 use Rattle.std.specs.Fmt.{decimal}
@@ -16,22 +18,27 @@ use Rattle.std.specs.List.{list_any}
 use Rattle.std.specs.Map.{lookup}
 use Rattle.std.specs.Ordering.{nat_cmp}
 use Rattle.hex.specs.Hex.{decode_sized}
-use Rattle.svn_types.specs.Names.{Path}
+use Rattle.svn_types.specs.Names.{Path, path_cmp}
 use Rattle.svn_types.specs.Paths.{path_eq, is_root}
 use Rattle.svn_digits.specs.StandIns.{stand_in, is_stand_in}
 use Rattle.svn_model.specs.declared.base_node.BaseNode.{BaseNode}
 use Rattle.svn_model.specs.declared.base_node.BaseNode.TheVariants.{File as FileNode, Dir as DirNode, NotPresent}
 use Rattle.svn_model.specs.Nodes.{get_in}
+use Rattle.svn_wcdb.specs.declared.table.TableRow.{TableRow}
 use Rattle.svn_wcrows.specs.declared.work.Work.{Work}
 use Rattle.svn_wcrows.specs.declared.work.Work.TheVariants.{MakeDirectory, InstallFile, RemoveFile, RemoveDirectory}
+use Rattle.svn_wcrows.specs.Work.{AreItems}
 use Rattle.svn_folder.specs.declared.entry.Entry.{Entry}
 use Rattle.svn_folder.specs.declared.entry.Entry.TheVariants.{File, Directory, Link}
 use Rattle.svn_folder.specs.declared.step.Step.{Step}
+use Rattle.svn_folder.specs.Entries.{has_leaf}
 use Rattle.svn_folder.specs.States.{Seen, State, seen}
 use Rattle.svn_folder.specs.Steps.{run}
 use Rattle.svn_folder.specs.Pasts.{Past, Known}
-use Rattle.svn_disk.specs.Places.{text_place}
+use Rattle.svn_disk.specs.Places.{is_outside, text_place, database_place, new_database_place}
 use Rattle.svn_disk.specs.Plans.{path_of}
+use Rattle.svn_disk.specs.Tasks.{comes_at, work_node}
+use Rattle.svn_disk.specs.Crashes.{IsTextAt, OfText}
 
 -- ---- what is shown in the end
 
@@ -82,18 +89,102 @@ abbrev pub ArePlaced : List ℕ → ℕ → List Work → Seen → Seen → Type
 ArePlaced n i [] before left = ⊤
 ArePlaced n i (item ∷ work) before left = IsPlaced n i item before left × ArePlaced n (i + files_of item) work before left
 
--- no two items are about the same path
-abbrev pub AreDistinct : List Work → Type 0
-AreDistinct [] = ⊤
-AreDistinct (item ∷ work) = (list_any (λ other. path_eq (path_of item) (path_of other)) work ≡ false) × AreDistinct work
+-- outside of the administrative folder all is as it was, but at the paths of some work
+abbrev pub AreOthers : List Work → Seen → Seen → Type 0
+AreOthers work before left = (q : Path) → is_outside q ≡ true → list_any (λ item. path_eq (path_of item) q) work ≡ false → left q ≡ before q
 
--- ---- files under names of their own
+-- what comes is there, and all else is as it was
+pub record AreDone (n : List ℕ) (work : List Work) (before left : Seen) : Type 0 where
+  pub placed : ArePlaced n 0 work before left
+  pub others : AreOthers work before left
+
+-- where a file goes, and none of these items is about its path, is no file and no link
+abbrev pub IsGoneBut : List Work → Work → Seen → Type 0
+IsGoneBut makings (MakeDirectory p) left = ⊤
+IsGoneBut makings (InstallFile p) left = ⊤
+IsGoneBut makings (RemoveFile p) left = list_any (λ item. path_eq (path_of item) p) makings ≡ false → has_leaf (left p) ≡ false
+IsGoneBut makings (RemoveDirectory p) left = ⊤
+
+abbrev pub AreGoneBut : List Work → List Work → Seen → Type 0
+AreGoneBut makings [] left = ⊤
+AreGoneBut makings (item ∷ work) left = IsGoneBut makings item left × AreGoneBut makings work left
+
+pub record AreCarried (n : List ℕ) (removals makings : List Work) (before left : Seen) : Type 0 where
+  pub placed : ArePlaced n 0 makings before left
+  pub gone : AreGoneBut makings removals left
 
 -- how many files a node is
 abbrev pub files_at : BaseNode → ℕ
 files_at (FileNode r q t ps) = 1
 files_at (DirNode r q c ps) = 0
 files_at NotPresent = 0
+
+-- a file of a copy is at its path
+pub record HasText (copy : List (Path × BaseNode)) (p : Path) (left : Seen) : Type 0 where
+  pub text : List ℕ
+  pub is : IsTextAt copy p text
+  pub there : text_at (left p) ≡ Some text
+
+-- of one item of some work: what comes is there, and where a file goes and nothing comes is no file and no link; a directory that goes may stay, with
+-- something in it
+abbrev pub IsDone : List (Path × BaseNode) → List Work → Work → Seen → Type 0
+IsDone copy all (MakeDirectory p) left = left p ≡ Some Directory
+IsDone copy all (InstallFile p) left = HasText copy p left
+IsDone copy all (RemoveFile p) left = list_any (comes_at p) all ≡ false → has_leaf (left p) ≡ false
+IsDone copy all (RemoveDirectory p) left = ⊤
+
+abbrev pub EachDone : List (Path × BaseNode) → List Work → List Work → Seen → Type 0
+EachDone copy all [] left = ⊤
+EachDone copy all (item ∷ work) left = IsDone copy all item left × EachDone copy all work left
+
+-- all of the work that these rows of WORK_QUEUE are is done
+pub record IsCompleted (rows : List TableRow) (copy : List (Path × BaseNode)) (left : Seen) : Type 0 where
+  pub work : List Work
+  pub are : AreItems rows work
+  pub done : EachDone copy work work left
+
+-- each file that comes is one of the copy
+abbrev pub AreFiles : List (Path × BaseNode) → List Work → Type 0
+AreFiles copy [] = ⊤
+AreFiles copy (item ∷ work) = (files_at (work_node copy item) ≡ files_of item) × AreFiles copy work
+
+-- the checksum that a stand-in is of is among those of the texts that are kept
+abbrev pub IsHeld : List (List ℕ × ℕ) → List ℕ → Type 0
+IsHeld sizes name = (sum : List ℕ) × (decode_sized (drop 6 name) 20 ≡ Ok sum) × (is_some (lookup (is_at (slice_cmp nat_cmp sum)) sizes) ≡ true)
+
+-- the texts that are held stay so
+abbrev pub StayHeld : List (List ℕ × ℕ) → List (List ℕ × ℕ) → Type 0
+StayHeld sizes more = (name : List ℕ) → IsHeld sizes name → IsHeld more name
+
+-- the size of a file is noted, or that it is a link
+abbrev pub is_noted : List (Path × Option ℕ) → Path → Bool
+is_noted sizes p = is_some (lookup (is_at (path_cmp p)) sizes)
+
+abbrev pub StayNoted : List (Path × Option ℕ) → List (Path × Option ℕ) → Type 0
+StayNoted sizes more = (p : Path) → is_noted sizes p ≡ true → is_noted more p ≡ true
+
+-- of one item, and of all: the size of each file that comes is noted
+abbrev pub IsNoted : List (Path × Option ℕ) → Work → Type 0
+IsNoted sizes (MakeDirectory p) = ⊤
+IsNoted sizes (InstallFile p) = is_noted sizes p ≡ true
+IsNoted sizes (RemoveFile p) = ⊤
+IsNoted sizes (RemoveDirectory p) = ⊤
+
+abbrev pub AreNoted : List (Path × Option ℕ) → List Work → Type 0
+AreNoted sizes [] = ⊤
+AreNoted sizes (item ∷ work) = IsNoted sizes item × AreNoted sizes work
+
+-- of each node whose size is noted, its text
+abbrev pub EachNoted : List (Path × Option ℕ) → (List ℕ → Type 0) → List (Path × BaseNode) → Type 0
+EachNoted sizes P [] = ⊤
+EachNoted sizes P (entry ∷ nodes) = (is_noted sizes entry.0 ≡ true → OfText P entry.1) × EachNoted sizes P nodes
+
+-- no two items are about the same path
+abbrev pub AreDistinct : List Work → Type 0
+AreDistinct [] = ⊤
+AreDistinct (item ∷ work) = (list_any (λ other. path_eq (path_of item) (path_of other)) work ≡ false) × AreDistinct work
+
+-- ---- files under names of their own
 
 -- the number of the file that comes next
 abbrev pub number_after : BaseNode → ℕ → ℕ
@@ -145,24 +236,24 @@ IsSameBut p before left = (r : Path) → path_eq p r ≡ false → left r ≡ be
 abbrev pub StaysBut : Path → Path → Seen → Seen → Type 0
 StaysBut p q before left = (r : Path) → is_some (before r) ≡ true → path_eq p r ≡ false → path_eq q r ≡ false → left r ≡ before r
 
+-- all is as it was, but for the database, and the one that takes its place
+abbrev pub IsExchanged : List ℕ → Seen → Seen → Type 0
+IsExchanged n before left = (r : Path) → path_eq (new_database_place n) r ≡ false → path_eq (database_place n) r ≡ false → left r ≡ before r
+
 -- what has a text is copied to another path
 pub record CopiesText (p q : Path) (before left : Seen) : Type 0 where
   pub there : is_some (text_at (before p)) ≡ true
   pub same : text_at (left q) ≡ text_at (before p)
   pub others : (r : Path) → path_eq q r ≡ false → left r ≡ before r
 
--- the checksum that a stand-in is of is among those of the texts that are kept
-abbrev pub IsHeld : List (List ℕ × ℕ) → List ℕ → Type 0
-IsHeld sizes name = (sum : List ℕ) × (decode_sized (drop 6 name) 20 ≡ Ok sum) × (is_some (lookup (is_at (slice_cmp nat_cmp sum)) sizes) ≡ true)
-
 -- a text is kept: nothing changes if it was before
 pub record KeepsText (n : List ℕ) (sizes : List (List ℕ × ℕ)) (name : List ℕ) (before left : Seen) : Type 0 where
   pub again : IsHeld sizes name → IsSame before left
   pub stays : StaysBut (new_text_place n) (text_place n name) before left
 
--- the files with lower numbers stay as their texts are, and one more comes
-pub record CopiesNode (n : List ℕ) (i : ℕ) (sizes : List (List ℕ × ℕ)) (node : BaseNode) (before left : Seen) : Type 0 where
-  pub earlier : (j : ℕ) (name : List ℕ) → j < i → IsHeld sizes name → HasCopy n j name before → HasCopy n j name left
+-- the files with lower numbers whose texts are held stay as these are, and one more comes
+pub record CopiesNode (n : List ℕ) (i : ℕ) (held : List ℕ → Type 0) (node : BaseNode) (before left : Seen) : Type 0 where
+  pub earlier : (j : ℕ) (name : List ℕ) → j < i → held name → HasCopy n j name before → HasCopy n j name left
   pub comes : IsCopied n i node left
 
 -- ---- parts of it
@@ -187,6 +278,32 @@ pub record IsPut (p : Path) (e : Option Entry) (before left : Seen) : Type 0 whe
 pub record IsMoved (p q : Path) (before left : Seen) : Type 0 where
   pub here : left q ≡ before p
   pub others : (r : Path) → path_eq p r ≡ false → path_eq q r ≡ false → left r ≡ before r
+
+-- at a path is what was there, or nothing, and everything else is as it was
+pub record IsLessAt (p : Path) (before left : Seen) : Type 0 where
+  pub here : (left p ≡ before p) ⊎ (left p ≡ None)
+  pub others : IsSameBut p before left
+
+-- no file and no link is where one goes; a directory that goes may stay, with something in it
+abbrev pub IsGone : Work → Seen → Type 0
+IsGone (MakeDirectory p) left = ⊤
+IsGone (InstallFile p) left = ⊤
+IsGone (RemoveFile p) left = has_leaf (left p) ≡ false
+IsGone (RemoveDirectory p) left = ⊤
+
+abbrev pub AreGone : List Work → Seen → Type 0
+AreGone [] left = ⊤
+AreGone (item ∷ work) left = IsGone item left × AreGone work left
+
+abbrev pub IsOneGone : Work → Seen → Seen → Type 0
+IsOneGone (MakeDirectory p) before left = IsSame before left
+IsOneGone (InstallFile p) before left = IsSame before left
+IsOneGone (RemoveFile p) before left = IsLessAt p before left × (has_leaf (left p) ≡ false)
+IsOneGone (RemoveDirectory p) before left = IsLessAt p before left
+
+pub record AreRemoved (work : List Work) (before left : Seen) : Type 0 where
+  pub gone : AreGone work left
+  pub others : (q : Path) → list_any (λ item. path_eq (path_of item) q) work ≡ false → left q ≡ before q
 
 -- the directories that come are there, and everything else is as it was
 pub record AreMade (work : List Work) (before left : Seen) : Type 0 where

@@ -1,8 +1,10 @@
 pub mod Goes
 pub mod Places
 pub mod Plans
+pub mod Tasks
 pub mod Crashes
 pub mod Ends
+pub mod Changes
 pub mod Readings
 pub mod Signs
 pub mod Spared

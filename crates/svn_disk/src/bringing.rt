@@ -1,8 +1,9 @@
 //! A working copy that is on disk, brought to another state: the old copy until one rename, and from then on the new one.
-ghost use Rattle.std.specs.Prelude.{◌≡◌, ◌||◌, ℕ, List, true, codes, Some, IfOk, OnOk};
+ghost use Rattle.std.specs.Prelude.{◌≡◌, ◌||◌, ◌++◌, ◌<◌, ◌^◌, ℕ, List, true, false, length, codes, Some, IfOk, OnOk, ⊤};
 ghost use Rattle.std.specs.List.{list_all};
 ghost use Rattle.svn_types.specs.Names.{Path};
 ghost use Rattle.svn_model.specs.declared.base_node.BaseNode.{BaseNode};
+ghost use Rattle.svn_wcrows.specs.declared.work.Work.{Work as WorkItem};
 ghost use Rattle.svn_wcrows.specs.Copies.{StandsFor};
 ghost use Rattle.svn_folder.specs.Files.{is_sync};
 ghost use Rattle.svn_folder.specs.States.{seen};
@@ -12,6 +13,9 @@ ghost use Rattle.svn_disk.specs.Plans.{path_of, text_of_node};
 ghost use Rattle.svn_disk.specs.Crashes.{HasBytes, IsTextIn, OfText, EachText, IsWhole, AreNodesOf, IsTextAt, IsThere, IsOldOrNew, IsSafe, IsKept, IsBoth, IsOneOf, IsAdding, LeavesFrom, AfterFrom, Runs};
 ghost use Rattle.svn_disk.specs.Spared.{GoesIn, Spares, texts_of, texts_of_either};
 ghost use Rattle.svn_disk.specs.Finding.{has_word};
+ghost use Rattle.svn_disk.specs.Tasks.{makings_in, removals_in, work_nodes, IsParted};
+ghost use Rattle.svn_disk.specs.Changes.{removals_of, makings_of, AreChanged};
+ghost use Rattle.svn_disk.specs.Ends.{Turns, AreDistinct, AreFiles, AreNoted, EachNoted, is_noted, AreCopied, AreReady, EachDone};
 
 use crate::carry::{make_database, put_database};
 use crate::checkout::refuse_reserved;
@@ -24,6 +28,7 @@ use crate::node_file::file_of;
 use crate::plan::{PathChange, Plan};
 use crate::preparing::Ready;
 use crate::refusals::refuse;
+use crate::repeated::refuse_repeated;
 use crate::rows::Sizes;
 use crate::settle::settle;
 use crate::source::Source;
@@ -68,7 +73,8 @@ impl Bringing<'_> {
 
     // Whether the old copy has this text at the path of a file that isn't written anew.
     fn is_kept(&self, sizes: &Sizes, path: &RelPath, name: &Text) -> bool
-        ensures { result ≡ true → IsTextAt self.now.existing.now.copy path.now name.now }
+        ensures text { result ≡ true → IsTextAt self.now.existing.now.copy path.now name.now }
+        ensures noted { result ≡ true → is_noted sizes.now.entries path.now ≡ false }
     {
         match self.existing.copy.get(path) {
             Some(old) => is_file_of(old, name) && !sizes.contains_key(path),
@@ -83,7 +89,8 @@ impl Bringing<'_> {
         sizes: &Sizes,
         entry: (&RelPath, &BaseNode),
     ) -> Result<(), DiskFault>
-        ensures { OnOk result ((old : List (Path × BaseNode)) → AreNodesOf self.now.existing.now.copy old → IsAlways (λ s. EachText (IsTextIn self.now.admin.now.name (seen s)) old → OfText (IsTextIn self.now.admin.now.name (seen s)) entry.entry.1.now) (F.past folder.now)) }
+        ensures texts { OnOk result ((old : List (Path × BaseNode)) → AreNodesOf self.now.existing.now.copy old → IsAlways (λ s. EachText (IsTextIn self.now.admin.now.name (seen s)) old → OfText (IsTextIn self.now.admin.now.name (seen s)) entry.entry.1.now) (F.past folder.now)) }
+        ensures coming { OnOk result (is_noted sizes.now.entries entry.entry.0.now ≡ true → IsAlways (λ s. OfText (IsTextIn self.now.admin.now.name (seen s)) entry.entry.1.now) (F.past folder.now)) }
     {
         let (path, node) = entry;
         let Some((name, _)) = file_of(node) else {
@@ -106,7 +113,8 @@ impl Bringing<'_> {
         sizes: &Sizes,
         nodes: &[(RelPath, BaseNode)],
     ) -> Result<(), DiskFault>
-        ensures { OnOk result ((old : List (Path × BaseNode)) → AreNodesOf self.now.existing.now.copy old → IsAlways (λ s. EachText (IsTextIn self.now.admin.now.name (seen s)) old → EachText (IsTextIn self.now.admin.now.name (seen s)) nodes.now) (F.past folder.now)) }
+        ensures texts { OnOk result ((old : List (Path × BaseNode)) → AreNodesOf self.now.existing.now.copy old → IsAlways (λ s. EachText (IsTextIn self.now.admin.now.name (seen s)) old → EachText (IsTextIn self.now.admin.now.name (seen s)) nodes.now) (F.past folder.now)) }
+        ensures coming { OnOk result (IsAlways (λ s. EachNoted sizes.now.entries (IsTextIn self.now.admin.now.name (seen s)) nodes.now) (F.past folder.now)) }
     {
         let mut rest = nodes;
         'nodes: while let Some((first, after)) = rest.split_first() {
@@ -125,6 +133,7 @@ impl Bringing<'_> {
     ) -> Result<(), DiskFault>
         requires { self.now.admin.now.name ≡ codes ".svn" }
         ensures steps { Goes is_sync (F.past folder.old.folder) result (F.past folder.new.folder) }
+        ensures coming { OnOk result (IsAlways (λ s. EachNoted sizes.now.entries (IsTextIn (codes ".svn") (seen s)) nodes.now) (F.past folder.new.folder)) }
         ensures crash { self.now.sync ≡ true → (old : List (Path × BaseNode)) → AreNodesOf self.now.existing.now.copy old → Runs (IsSafe (codes ".svn") old) (IsWhole (codes ".svn") old) (IsBoth old nodes.now) (F.past folder.old.folder) result (F.past folder.new.folder) }
     {
         settle(self.alloc, folder, self.sync)?;
@@ -141,6 +150,7 @@ impl Bringing<'_> {
         requires name { self.now.admin.now.name ≡ codes ".svn" }
         requires image { StandsFor ready.now.images.nodes.items image.items }
         ensures steps { Goes (is_inside (codes ".svn")) (F.past folder.old.folder) result (F.past folder.new.folder) }
+        ensures ends { (copy : List (Path × BaseNode)) (work : List WorkItem) → length work < 2 ^ 64 → AreNodesOf copy ready.now.images.nodes.items → AreNoted ready.now.sizes.entries work → OnOk result (Turns (λ before left. AreCopied (codes ".svn") 0 (work_nodes copy work) before → AreReady (codes ".svn") 0 (work_nodes copy work) left) (F.past folder.old.folder) (F.past folder.new.folder)) }
         ensures crash { self.now.sync ≡ true → (old : List (Path × BaseNode)) → AreNodesOf self.now.existing.now.copy old → Runs (IsSafe (codes ".svn") old) (IsOneOf old ready.now.images.nodes.items) (IsSafe (codes ".svn") ready.now.images.nodes.items) (F.past folder.old.folder) result (F.past folder.new.folder) }
     {
         self.settle_all(folder, &ready.sizes, &ready.images.nodes)?;
@@ -157,6 +167,7 @@ impl Bringing<'_> {
     ) -> Result<(), DiskFault>
         requires { self.now.admin.now.name ≡ codes ".svn" }
         ensures steps { Goes (is_inside (codes ".svn")) (F.past folder.old.folder) result (F.past folder.new.folder) }
+        ensures ends { (copy : List (Path × BaseNode)) → AreNodesOf copy ready.images.nodes.items → OnOk result (Turns (λ before left. ⊤) (F.past folder.old.folder) (F.past folder.new.folder)) }
         ensures crash { self.now.sync ≡ true → (old : List (Path × BaseNode)) → AreNodesOf self.now.existing.now.copy old → Runs (IsSafe (codes ".svn") old) (IsOneOf old ready.images.nodes.items) (IsSafe (codes ".svn") ready.images.nodes.items) (F.past folder.old.folder) result (F.past folder.new.folder) }
     {
         let end = ready.images.next(self.alloc, &[])?;
@@ -202,8 +213,11 @@ impl Bringing<'_> {
         requires task { list_all (λ item. is_either self.now.existing.now.copy self.now.wanted.now.copy (path_of item)) task.now.work.items ≡ true }
         ensures steps { Goes (is_of_change self.now.existing.now.copy self.now.wanted.now.copy) (F.past folder.old.folder) result (F.past folder.new.folder) }
         ensures spares { GoesIn (Spares (texts_of_either self.now.existing.now.tables.pristine.items self.now.wanted.now.copy) (codes ".svn")) (F.past folder.old.folder) result (F.past folder.new.folder) }
+        ensures ends { IsParted task.now → AreDistinct (makings_in task.now) → AreNodesOf self.now.wanted.now.copy ready.images.nodes.items → AreFiles self.now.wanted.now.copy (makings_in task.now) → AreNoted ready.sizes.entries (makings_in task.now) → OnOk result (Turns (λ before left. AreCopied (codes ".svn") 0 (work_nodes self.now.wanted.now.copy (makings_in task.now)) before → EachDone self.now.wanted.now.copy task.now.work.items task.now.work.items left) (F.past folder.old.folder) (F.past folder.new.folder)) }
         ensures crash { self.now.sync ≡ true → (old : List (Path × BaseNode)) → AreNodesOf self.now.existing.now.copy old → Runs (IsSafe (codes ".svn") old) (IsOneOf old ready.images.nodes.items) (IsSafe (codes ".svn") ready.images.nodes.items) (F.past folder.old.folder) result (F.past folder.new.folder) }
     {
+        // a list has fewer items than a number counts
+        let _count = task.work.len();
         let known = self.known(task)?;
         let image = ready.images.next(self.alloc, &task.work)?;
         let first = Text::from_slice(self.alloc, &image)?;
@@ -243,10 +257,15 @@ impl Bringing<'_> {
 
     // What is left to do on disk.
     fn task(&self) -> Result<Task, DiskFault>
-        ensures { IfOk result (λ task. list_all (λ item. is_either self.now.existing.now.copy self.now.wanted.now.copy (path_of item)) task.work.items ≡ true) }
+        ensures either { IfOk result (λ task. list_all (λ item. is_either self.now.existing.now.copy self.now.wanted.now.copy (path_of item)) task.work.items ≡ true) }
+        ensures parted { IfOk result IsParted }
+        ensures distinct { IfOk result (λ task. AreDistinct (makings_in task)) }
+        ensures removals { IfOk result (λ task. removals_in task ≡ removals_of self.now.plan.now.was.now self.now.plan.now.changes.entries) }
+        ensures makings { IfOk result (λ task. makings_in task ≡ makings_of self.now.plan.now.wanted.now self.now.plan.now.changes.entries) }
     {
         let task = Task::of_plan(self.alloc, self.plan)?;
         self.refuse_elsewhere(&task.work)?;
+        refuse_repeated(self.alloc, task.makings())?;
         Ok(task)
     }
 
@@ -261,6 +280,7 @@ impl Bringing<'_> {
         requires task { list_all (λ item. is_either self.now.existing.now.copy self.now.wanted.now.copy (path_of item)) task.now.work.items ≡ true }
         ensures steps { Goes (is_of_change self.now.existing.now.copy self.now.wanted.now.copy) (F.past folder.old.folder) result (F.past folder.new.folder) }
         ensures spares { GoesIn (Spares (texts_of_either self.now.existing.now.tables.pristine.items self.now.wanted.now.copy) (codes ".svn")) (F.past folder.old.folder) result (F.past folder.new.folder) }
+        ensures ends { IsParted task.now → AreDistinct (makings_in task.now) → AreNodesOf self.now.wanted.now.copy ready.images.nodes.items → AreFiles self.now.wanted.now.copy (makings_in task.now) → AreNoted ready.sizes.entries (makings_in task.now) → OnOk result (Turns (λ before left. AreCopied (codes ".svn") 0 (work_nodes self.now.wanted.now.copy (makings_in task.now)) before → EachDone self.now.wanted.now.copy task.now.work.items task.now.work.items left) (F.past folder.old.folder) (F.past folder.new.folder)) }
         ensures crash { self.now.sync ≡ true → (old : List (Path × BaseNode)) → AreNodesOf self.now.existing.now.copy old → Runs (IsSafe (codes ".svn") old) (IsOneOf old ready.images.nodes.items) (IsSafe (codes ".svn") ready.images.nodes.items) (F.past folder.old.folder) result (F.past folder.new.folder) }
     {
         if task.is_empty() {
@@ -279,6 +299,7 @@ impl Bringing<'_> {
         requires { self.now.admin.now.name ≡ codes ".svn" }
         ensures steps { Goes (is_of_change self.now.existing.now.copy self.now.wanted.now.copy) (F.past folder.old.folder) result (F.past folder.new.folder) }
         ensures spares { GoesIn (Spares (texts_of_either self.now.existing.now.tables.pristine.items self.now.wanted.now.copy) (codes ".svn")) (F.past folder.old.folder) result (F.past folder.new.folder) }
+        ensures ends { OnOk result (Turns (λ before left. EachDone self.now.wanted.now.copy (removals_of self.now.plan.now.was.now self.now.plan.now.changes.entries ++ makings_of self.now.plan.now.wanted.now self.now.plan.now.changes.entries) (removals_of self.now.plan.now.was.now self.now.plan.now.changes.entries ++ makings_of self.now.plan.now.wanted.now self.now.plan.now.changes.entries) left) (F.past folder.old.folder) (F.past folder.new.folder)) }
         ensures crash { self.now.sync ≡ true → Runs (IsKept self.now.existing.now.copy) (IsOldOrNew self.now.existing.now.copy self.now.wanted.now.copy) (IsKept self.now.wanted.now.copy) (F.past folder.old.folder) result (F.past folder.new.folder) }
     {
         let task = self.task()?;
@@ -303,7 +324,9 @@ fn plan_of<'a, F: Folder>(
     folder: &F,
     existing: &'a Existing,
     wanted: &'a Wanted,
-) -> Result<Plan<'a>, DiskFault> {
+) -> Result<Plan<'a>, DiskFault>
+    ensures { IfOk result (λ plan. (plan.was.now ≡ existing.now.copy) × (plan.wanted.now ≡ wanted.now.copy)) }
+{
     refuse_reserved(&existing.copy)?;
     refuse_reserved(&wanted.copy)?;
     let mut plan = Plan::between(alloc, &existing.copy, &wanted.copy)?;
@@ -346,6 +369,7 @@ pub fn bring<F: Folder, S: Source>(
     ensures spares { GoesIn (Spares (texts_of_either existing.now.tables.pristine.items wanted.now.copy) (codes ".svn")) (F.past folder.old.folder) result (F.past folder.new.folder) }
     ensures crash { sync ≡ true → LeavesFrom (IsKept existing.now.copy) (IsOldOrNew existing.now.copy wanted.now.copy) (F.past folder.old.folder) (F.past folder.new.folder) }
     ensures after { sync ≡ true → OnOk result (AfterFrom (IsKept existing.now.copy) (IsThere wanted.now.copy) (F.past folder.old.folder) (F.past folder.new.folder)) }
+    ensures ends { IfOk result (λ changes. Turns (λ before left. AreChanged existing.now.copy wanted.now.copy changes.items left) (F.past folder.old.folder) (F.past folder.new.folder)) }
 {
     let plan = plan_of(alloc, folder, existing, wanted)?;
     bring_by(alloc, folder, source, (existing, wanted, &plan), sync)?;
@@ -362,6 +386,7 @@ fn bring_by<F: Folder, S: Source>(
 ) -> Result<(), DiskFault>
     ensures steps { Goes (is_of_change what.entry.0.now.copy what.entry.1.now.copy) (F.past folder.old.folder) result (F.past folder.new.folder) }
     ensures spares { GoesIn (Spares (texts_of_either what.entry.0.now.tables.pristine.items what.entry.1.now.copy) (codes ".svn")) (F.past folder.old.folder) result (F.past folder.new.folder) }
+    ensures ends { what.entry.2.now.wanted.now ≡ what.entry.1.now.copy → OnOk result (Turns (λ before left. EachDone what.entry.1.now.copy (removals_of what.entry.2.now.was.now what.entry.2.now.changes.entries ++ makings_of what.entry.2.now.wanted.now what.entry.2.now.changes.entries) (removals_of what.entry.2.now.was.now what.entry.2.now.changes.entries ++ makings_of what.entry.2.now.wanted.now what.entry.2.now.changes.entries) left) (F.past folder.old.folder) (F.past folder.new.folder)) }
     ensures crash { sync ≡ true → Runs (IsKept what.entry.0.now.copy) (IsOldOrNew what.entry.0.now.copy what.entry.1.now.copy) (IsKept what.entry.1.now.copy) (F.past folder.old.folder) result (F.past folder.new.folder) }
 {
     let (existing, wanted, plan) = what;

@@ -9,7 +9,7 @@ ghost use Rattle.svn_disk.specs.Goes.{Goes};
 ghost use Rattle.svn_disk.specs.Places.{is_inside, is_outside, is_placing};
 ghost use Rattle.svn_disk.specs.Plans.{path_of};
 ghost use Rattle.svn_disk.specs.Crashes.{IsOneOf, IsSafe, IsBoth, IsSet, Runs};
-ghost use Rattle.svn_disk.specs.Ends.{Turns, ArePlaced, AreDistinct, AreDirectories, AreMade, IsOneMade, IsOnePlaced, files_of};
+ghost use Rattle.svn_disk.specs.Ends.{Turns, ArePlaced, AreDistinct, AreDirectories, AreMade, IsOneMade, IsOnePlaced, IsExchanged, files_of};
 
 use crate::existing::{lock_unchanged, refuse_overwritten};
 use crate::fault::DiskFault;
@@ -148,6 +148,7 @@ pub(crate) fn make_database<F: Folder>(
     sync: bool,
 ) -> Result<(), DiskFault>
     ensures steps { Goes (is_inside admin.now.name) (F.past folder.old) result (F.past folder.new) }
+    ensures ends { OnOk result (Turns (IsExchanged admin.now.name) (F.past folder.old) (F.past folder.new)) }
     ensures crash { sync ≡ true → admin.now.name ≡ codes ".svn" → (one two : List (Path × BaseNode)) → StandsFor two image.items → Runs (IsBoth one two) (IsOneOf one two) (IsSet one two) (F.past folder.old) result (F.past folder.new) }
 {
     let new = admin.new_database(alloc)?;
@@ -165,6 +166,7 @@ pub(crate) fn put_database<F: Folder>(
     sync: bool,
 ) -> Result<(), DiskFault>
     ensures steps { Goes (is_inside admin.now.name) (F.past folder.old) result (F.past folder.new) }
+    ensures ends { OnOk result (Turns (IsExchanged admin.now.name) (F.past folder.old) (F.past folder.new)) }
     ensures crash { sync ≡ true → admin.now.name ≡ codes ".svn" → (one two : List (Path × BaseNode)) → Runs (IsSet one two) (IsOneOf one two) (IsSafe (codes ".svn") two) (F.past folder.old) result (F.past folder.new) }
 {
     let new = admin.new_database(alloc)?;
@@ -195,6 +197,7 @@ pub(crate) fn replace_database<F: Folder>(
     sync: bool,
 ) -> Result<(), DiskFault>
     ensures steps { Goes (is_inside admin.now.name) (F.past folder.old) result (F.past folder.new) }
+    ensures ends { OnOk result (Turns (IsExchanged admin.now.name) (F.past folder.old) (F.past folder.new)) }
     ensures crash { sync ≡ true → admin.now.name ≡ codes ".svn" → (one two : List (Path × BaseNode)) → StandsFor two exchange.entry.image.items → Runs (IsBoth one two) (IsOneOf one two) (IsSafe (codes ".svn") two) (F.past folder.old) result (F.past folder.new) }
 {
     let Exchange { now, image } = exchange;

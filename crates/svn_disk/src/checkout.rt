@@ -219,7 +219,7 @@ fn prepare_file<F: Folder, S: Source>(
     ensures files { OnOk result (progress.new.files ≡ number_after entry.entry.1.now progress.old.files) }
     ensures held { OnOk result (OfText (IsHeld progress.new.texts.sizes.entries) entry.entry.1.now) }
     ensures others { OnOk result ((name : List ℕ) → IsHeld progress.old.texts.sizes.entries name → IsHeld progress.new.texts.sizes.entries name) }
-    ensures ends { OnOk result (Turns (CopiesNode making.now.admin.now.name progress.old.files progress.old.texts.sizes.entries entry.entry.1.now) (F.past folder.old) (F.past folder.new)) }
+    ensures ends { OnOk result (Turns (CopiesNode making.now.admin.now.name progress.old.files (IsHeld progress.old.texts.sizes.entries) entry.entry.1.now) (F.past folder.old) (F.past folder.new)) }
 {
     let (path, node) = entry;
     let Some((name, props)) = file_of(node) else {
@@ -253,7 +253,7 @@ fn prepare_node<F: Folder, S: Source>(
     ensures files { OnOk result (progress.new.files ≡ number_after entry.entry.1.now progress.old.files) }
     ensures held { OnOk result (OfText (IsHeld progress.new.texts.sizes.entries) entry.entry.1.now) }
     ensures others { OnOk result ((name : List ℕ) → IsHeld progress.old.texts.sizes.entries name → IsHeld progress.new.texts.sizes.entries name) }
-    ensures ends { OnOk result (Turns (CopiesNode making.now.admin.now.name progress.old.files progress.old.texts.sizes.entries entry.entry.1.now) (F.past folder.old) (F.past folder.new)) }
+    ensures ends { OnOk result (Turns (CopiesNode making.now.admin.now.name progress.old.files (IsHeld progress.old.texts.sizes.entries) entry.entry.1.now) (F.past folder.old) (F.past folder.new)) }
 {
     let (_, node) = entry;
     if !node.is_directory() {

@@ -1,13 +1,18 @@
 //! What was cut off, completed.
-ghost use Rattle.std.specs.Prelude.{◌≡◌, ◌⊎◌, List, true, codes, IfOk, OnOk};
+ghost use Rattle.std.specs.Prelude.{◌≡◌, ◌⊎◌, List, true, codes, Ok, IfOk, OnOk, ⊤};
 ghost use Rattle.std.specs.List.{list_all};
 ghost use Rattle.svn_types.specs.Names.{Path};
 ghost use Rattle.svn_model.specs.declared.base_node.BaseNode.{BaseNode};
 ghost use Rattle.svn_wcrows.specs.Tables.{AllRows};
+ghost use Rattle.svn_wcrows.specs.Work.{AreItems};
+ghost use Rattle.svn_folder.specs.States.{seen};
 ghost use Rattle.svn_disk.specs.Goes.{Goes, IsAlways};
 ghost use Rattle.svn_disk.specs.Places.{is_inside, is_temporary, is_outside, is_doing};
 ghost use Rattle.svn_disk.specs.Plans.{path_of};
-ghost use Rattle.svn_disk.specs.Crashes.{IsThere, IsWhole, IsSafe, IsKept, AreOfNodes, LeavesFrom, AfterFrom, Runs};
+ghost use Rattle.svn_disk.specs.Tasks.{makings_in, IsParted, node_at, work_node, work_nodes};
+ghost use Rattle.svn_disk.specs.Ends.{Turns, files_at, files_of, AreFiles, AreDistinct, CopiesNode, AreCopied, IsCompleted};
+ghost use Rattle.svn_disk.specs.declared.completion.Resumed.TheVariants.{Completed};
+ghost use Rattle.svn_disk.specs.Crashes.{HasDatabase, OfText, EachText, IsTextIn, IsThere, IsWhole, IsSafe, IsKept, AreOfNodes, LeavesFrom, AfterFrom, Runs};
 ghost use Rattle.svn_disk.specs.Queue.{HasDatabaseRows, is_queued};
 ghost use Rattle.svn_disk.specs.Spared.{GoesIn, Spares, texts_in};
 
@@ -19,17 +24,17 @@ use crate::existing::Existing;
 use crate::fault::DiskFault;
 use crate::known::KnownTexts;
 use crate::layout::Admin;
-use crate::node_file::file_of;
+use crate::node_file::file_at;
 use crate::on_disk::{Found, find};
 use crate::prepared::{Prepared, prepare_unless_locked};
+use crate::repeated::refuse_repeated;
 use crate::steps::{remove_if_any, sync_files};
 use crate::task::Task;
 use crate::texts::has_text;
 use std::alloc::Global;
 use std::collections::BTreeSet;
 use svn_folder::Folder;
-use svn_model::BaseNode;
-use svn_types::{Props, RelPath, Text};
+use svn_types::RelPath;
 use svn_wcrows::{Work, read_work};
 
 /// What was to be done to complete a copy.
@@ -43,14 +48,6 @@ pub enum Resumed {
     Cleared,
 }
 
-// The text and the properties of a file of the copy.
-fn file_at<'a>(existing: &'a Existing, path: &RelPath) -> Option<(&'a Text, &'a Props)> {
-    match existing.copy.get(path) {
-        Some(node) => file_of(node),
-        None => None,
-    }
-}
-
 // Refuses a file that can't be made anew: of which the copy has no text, or another one.
 fn refuse_no_text<F: Folder>(
     alloc: Global,
@@ -58,8 +55,10 @@ fn refuse_no_text<F: Folder>(
     admin: &Admin,
     existing: &Existing,
     path: &RelPath,
-) -> Result<(), DiskFault> {
-    let Some((name, _)) = file_at(existing, path) else {
+) -> Result<(), DiskFault>
+    ensures { OnOk result (IsAlways (λ s. OfText (IsTextIn admin.now.name (seen s)) (node_at existing.now.copy path.now)) (F.past folder.now)) }
+{
+    let Some((name, _)) = file_at(&existing.copy, path) else {
         return Err(DiskFault::Foreign);
     };
     if has_text(alloc, folder, admin, name)? {
@@ -165,21 +164,46 @@ impl Looking<'_> {
         Ok(())
     }
 
+    // Refuses a file that comes, and that can't be made anew.
+    fn refuse_untold<F: Folder>(
+        &self,
+        folder: &F,
+        admin: &Admin,
+        item: &Work,
+    ) -> Result<(), DiskFault>
+        ensures { OnOk result (IsAlways (λ s. OfText (IsTextIn admin.now.name (seen s)) (work_node self.now.existing.now.copy item.now)) (F.past folder.now)) }
+    {
+        match item {
+            Work::InstallFile(path) => {
+                refuse_no_text(self.alloc, folder, admin, self.existing, path)
+            }
+            Work::MakeDirectory(_) | Work::RemoveFile(_) | Work::RemoveDirectory(_) => Ok(()),
+        }
+    }
+
+    // Refuses what isn't the copy's, of some work.
+    fn refuse_one<F: Folder>(&self, folder: &F, admin: &Admin, item: &Work) -> Result<(), DiskFault>
+        ensures { OnOk result (IsAlways (λ s. OfText (IsTextIn admin.now.name (seen s)) (work_node self.now.existing.now.copy item.now)) (F.past folder.now)) }
+    {
+        self.refuse_untold(folder, admin, item)?;
+        self.refuse_other(folder, item)?;
+        if let Work::RemoveDirectory(path) = item {
+            self.refuse_others_in(folder, path)?;
+        }
+        Ok(())
+    }
+
     // Refuses what isn't the copy's, of all work.
     fn refuse_all<F: Folder>(
         &self,
         folder: &F,
         admin: &Admin,
         work: &[Work],
-    ) -> Result<(), DiskFault> {
+    ) -> Result<(), DiskFault>
+        ensures { OnOk result (IsAlways (λ s. EachText (IsTextIn admin.now.name (seen s)) (work_nodes self.now.existing.now.copy work.now)) (F.past folder.now)) }
+    {
         for item in work {
-            if let Work::InstallFile(path) = item {
-                refuse_no_text(self.alloc, folder, admin, self.existing, path)?;
-            }
-            self.refuse_other(folder, item)?;
-            if let Work::RemoveDirectory(path) = item {
-                self.refuse_others_in(folder, path)?;
-            }
+            self.refuse_one(folder, admin, item)?;
         }
         Ok(())
     }
@@ -209,9 +233,11 @@ impl Again<'_> {
         path: &RelPath,
         number: usize,
     ) -> Result<Option<RelPath>, DiskFault>
-        ensures { Goes (is_temporary self.now.admin.now.name) (F.past folder.old) result (F.past folder.new) }
+        ensures steps { Goes (is_temporary self.now.admin.now.name) (F.past folder.old) result (F.past folder.new) }
+        ensures file { OnOk result (files_at (node_at self.now.existing.now.copy path.now) ≡ 1) }
+        ensures ends { OnOk result (Turns (CopiesNode self.now.admin.now.name number (λ name. ⊤) (node_at self.now.existing.now.copy path.now)) (F.past folder.old) (F.past folder.new)) }
     {
-        let Some((name, props)) = file_at(self.existing, path) else {
+        let Some((name, props)) = file_at(&self.existing.copy, path) else {
             return Err(DiskFault::Foreign);
         };
         let new = self.admin.new_file(self.alloc, number)?;
@@ -236,7 +262,9 @@ impl Again<'_> {
         item: &Work,
         number: usize,
     ) -> Result<Option<RelPath>, DiskFault>
-        ensures { Goes (is_temporary self.now.admin.now.name) (F.past folder.old) result (F.past folder.new) }
+        ensures steps { Goes (is_temporary self.now.admin.now.name) (F.past folder.old) result (F.past folder.new) }
+        ensures file { OnOk result (files_at (work_node self.now.existing.now.copy item.now) ≡ files_of item.now) }
+        ensures ends { OnOk result (Turns (CopiesNode self.now.admin.now.name number (λ name. ⊤) (work_node self.now.existing.now.copy item.now)) (F.past folder.old) (F.past folder.new)) }
     {
         match item {
             Work::InstallFile(path) => self.prepare_file(folder, path, number),
@@ -250,7 +278,9 @@ impl Again<'_> {
         folder: &mut F,
         work: &[Work],
     ) -> Result<Vec<RelPath>, DiskFault>
-        ensures { Goes (is_temporary self.now.admin.now.name) (F.past folder.old) result (F.past folder.new) }
+        ensures steps { Goes (is_temporary self.now.admin.now.name) (F.past folder.old) result (F.past folder.new) }
+        ensures files { OnOk result (AreFiles self.now.existing.now.copy work.now) }
+        ensures ends { OnOk result (Turns (λ before left. AreCopied self.now.admin.now.name 0 (work_nodes self.now.existing.now.copy work.now) left) (F.past folder.old) (F.past folder.new)) }
     {
         let mut number = 0usize;
         let mut files = Vec::new(self.alloc);
@@ -270,7 +300,9 @@ impl Again<'_> {
         work: &[Work],
         sync: bool,
     ) -> Result<(), DiskFault>
-        ensures { Goes (is_temporary self.now.admin.now.name) (F.past folder.old) result (F.past folder.new) }
+        ensures steps { Goes (is_temporary self.now.admin.now.name) (F.past folder.old) result (F.past folder.new) }
+        ensures files { OnOk result (AreFiles self.now.existing.now.copy work.now) }
+        ensures ends { OnOk result (Turns (λ before left. AreCopied self.now.admin.now.name 0 (work_nodes self.now.existing.now.copy work.now) left) (F.past folder.old) (F.past folder.new)) }
     {
         let files = self.prepare_files(folder, work)?;
         if !sync {
@@ -284,6 +316,9 @@ impl Again<'_> {
 fn task_of(alloc: Global, existing: &Existing) -> Result<Task, DiskFault>
     ensures outside { IfOk result (λ task. list_all (λ item. is_outside (path_of item)) task.work.items ≡ true) }
     ensures queue { IfOk result (λ task. list_all (λ item. is_queued existing.now.tables.work_queue.items (path_of item)) task.work.items ≡ true) }
+    ensures items { IfOk result (λ task. AreItems existing.now.tables.work_queue.items task.work.items) }
+    ensures parted { IfOk result IsParted }
+    ensures distinct { IfOk result (λ task. AreDistinct (makings_in task)) }
 {
     if !existing.numbers.is_marked() {
         return Err(DiskFault::Foreign);
@@ -291,10 +326,11 @@ fn task_of(alloc: Global, existing: &Existing) -> Result<Task, DiskFault>
     let Some(work) = read_work(alloc, &existing.tables.work_queue)? else {
         return Err(DiskFault::Foreign);
     };
-    match Task::of_queue(work) {
-        Some(task) => Ok(task),
-        None => Err(DiskFault::Foreign),
-    }
+    let Some(task) = Task::of_queue(work) else {
+        return Err(DiskFault::Foreign);
+    };
+    refuse_repeated(alloc, task.makings())?;
+    Ok(task)
 }
 
 // Refuses what isn't the copy's where work is left.
@@ -304,7 +340,9 @@ fn refuse_others<F: Folder>(
     again: &Again<'_>,
     task: &Task,
     known: &KnownTexts,
-) -> Result<(), DiskFault> {
+) -> Result<(), DiskFault>
+    ensures { OnOk result (IsAlways (λ s. EachText (IsTextIn again.now.admin.now.name (seen s)) (work_nodes again.now.existing.now.copy task.now.work.items)) (F.past folder.now)) }
+{
     let gone = task.gone(alloc)?;
     let files = task.replacing_files(alloc)?;
     let looking = Looking {
@@ -336,6 +374,7 @@ fn complete<F: Folder>(
     ensures steps { Goes (is_doing (codes ".svn") is_outside) (F.past folder.old) result (F.past folder.new) }
     ensures queue { Goes (is_doing (codes ".svn") (is_queued existing.tables.work_queue.items)) (F.past folder.old) result (F.past folder.new) }
     ensures spares { GoesIn (Spares (texts_in existing.tables.pristine.items) (codes ".svn")) (F.past folder.old) result (F.past folder.new) }
+    ensures ends { OnOk result (Turns (λ before left. IsCompleted existing.tables.work_queue.items existing.copy left) (F.past folder.old) (F.past folder.new)) }
     ensures crash { sync ≡ true → Runs (IsSafe (codes ".svn") existing.nodes.items) (IsWhole (codes ".svn") existing.nodes.items) (IsSafe (codes ".svn") existing.nodes.items) (F.past folder.old) result (F.past folder.new) }
 {
     let task = task_of(alloc, &existing)?;
@@ -369,6 +408,7 @@ fn complete_if_busy<F: Folder>(
     ensures steps { Goes (is_doing (codes ".svn") is_outside) (F.past folder.old) result (F.past folder.new) }
     ensures queue { Goes (is_doing (codes ".svn") (is_queued existing.tables.work_queue.items)) (F.past folder.old) result (F.past folder.new) }
     ensures spares { GoesIn (Spares (texts_in existing.tables.pristine.items) (codes ".svn")) (F.past folder.old) result (F.past folder.new) }
+    ensures ends { result ≡ Ok Completed → Turns (λ before left. IsCompleted existing.tables.work_queue.items existing.copy left) (F.past folder.old) (F.past folder.new) }
     ensures crash { sync ≡ true → Runs (IsSafe (codes ".svn") existing.nodes.items) (IsWhole (codes ".svn") existing.nodes.items) (IsSafe (codes ".svn") existing.nodes.items) (F.past folder.old) result (F.past folder.new) }
 {
     if !existing.is_busy() {
@@ -382,15 +422,16 @@ fn complete_if_busy<F: Folder>(
 /// everything is brought to the disk, each time before it counts.
 ///
 /// Refused before anything is changed: NoCopy; InUse where a client is about to write, and Journal; Foreign where the work is a client's, or the database was
-/// changed since, which `svn cleanup` is for; NoText where a pristine text isn't the one that its stand-in names; InTheWay at the first path where something
-/// is that isn't the copy's. Then Changed where a file was edited since, InTheWay where something came to be where a directory would be, InUse where a client
-/// has changed the database since, or is about to, Folder, Rows, Path and Memory: what is left of the work waits. Overwritten where a client began to change the
-/// database when the next one took its place. It may be cut off, and done again: with `sync` the copy that is on the disk stays there, whenever the program or the
-/// power stops.
+/// changed since, which `svn cleanup` is for; Repeated at the first path that two items of what comes are about; NoText where a pristine text isn't the one
+/// that its stand-in names; InTheWay at the first path where something is that isn't the copy's. Then Changed where a file was edited since, InTheWay where
+/// something came to be where a directory would be, InUse where a client has changed the database since, or is about to, Folder, Rows, Path and Memory: what is
+/// left of the work waits. Overwritten where a client began to change the database when the next one took its place. It may be cut off, and done again: with
+/// `sync` the copy that is on the disk stays there, whenever the program or the power stops.
 pub fn resume<F: Folder>(alloc: Global, folder: &mut F, sync: bool) -> Result<Resumed, DiskFault>
     ensures steps { Goes (is_inside (codes ".svn-new")) (F.past folder.old) result (F.past folder.new) ⊎ Goes (is_doing (codes ".svn") is_outside) (F.past folder.old) result (F.past folder.new) }
     ensures queue { (rows : AllRows) → IsAlways (HasDatabaseRows rows) (F.past folder.old) → Goes (is_inside (codes ".svn-new")) (F.past folder.old) result (F.past folder.new) ⊎ Goes (is_doing (codes ".svn") (is_queued rows.work_queue)) (F.past folder.old) result (F.past folder.new) }
     ensures spares { (rows : AllRows) → IsAlways (HasDatabaseRows rows) (F.past folder.old) → Goes (is_inside (codes ".svn-new")) (F.past folder.old) result (F.past folder.new) ⊎ GoesIn (Spares (texts_in rows.pristine) (codes ".svn")) (F.past folder.old) result (F.past folder.new) }
+    ensures ends { (rows : AllRows) (copy : List (Path × BaseNode)) → IsAlways (HasDatabaseRows rows) (F.past folder.old) → IsAlways (HasDatabase copy) (F.past folder.old) → result ≡ Ok Completed → Turns (λ before left. IsCompleted rows.work_queue copy left) (F.past folder.old) (F.past folder.new) }
     ensures crash { sync ≡ true → (copy : List (Path × BaseNode)) → LeavesFrom (IsKept copy) (IsThere copy) (F.past folder.old) (F.past folder.new) }
     ensures after { sync ≡ true → (copy : List (Path × BaseNode)) → OnOk result (AfterFrom (IsKept copy) (IsThere copy) (F.past folder.old) (F.past folder.new)) }
 {

@@ -1,10 +1,10 @@
 //! The work of a change, done: what goes is removed, and what comes is made. Each part may be done again.
-ghost use Rattle.std.specs.Prelude.{◌≡◌, List, Bool, true, codes, IfOk, MatchOption, ⊤};
+ghost use Rattle.std.specs.Prelude.{◌≡◌, List, Bool, true, false, codes, IfOk, OnOk, MatchOption, ⊤};
 ghost use Rattle.std.specs.List.{list_all};
 ghost use Rattle.svn_types.specs.Names.{Path};
 ghost use Rattle.svn_model.specs.declared.base_node.BaseNode.{BaseNode};
 ghost use Rattle.svn_wcrows.specs.Copies.{StandsFor};
-ghost use Rattle.svn_folder.specs.Entries.{has_directory};
+ghost use Rattle.svn_folder.specs.Entries.{has_leaf, has_directory};
 ghost use Rattle.svn_folder.specs.States.{seen};
 ghost use Rattle.svn_folder.specs.Steps.{IsEmpty};
 ghost use Rattle.svn_folder.specs.Files.{is_sync};
@@ -14,6 +14,8 @@ ghost use Rattle.svn_disk.specs.Plans.{path_of};
 ghost use Rattle.svn_disk.specs.Crashes.{IsSafe, IsWhole, AreOfNodes, Runs};
 ghost use Rattle.svn_disk.specs.Spared.{GoesIn, Spares};
 ghost use Rattle.svn_disk.specs.Finding.{has_word};
+ghost use Rattle.svn_disk.specs.Ends.{Turns, IsLessAt, IsOneGone, AreRemoved, IsOneMade, AreMade, IsMoved, IsOnePlaced, AreDirectories, AreDistinct, AreDone, AreCarried, IsExchanged, own_place};
+ghost use Rattle.svn_disk.specs.Tasks.{makings_in, removals_in};
 
 use crate::carry::{Exchange, files_in, parents, replace_database};
 use crate::database_image::Images;
@@ -129,6 +131,7 @@ impl Doing<'_> {
     fn remove_file<F: Folder>(&self, folder: &mut F, path: &RelPath) -> Result<(), DiskFault>
         ensures steps { (free : Path → Bool) → free path.now ≡ true → Goes (is_changing self.now.admin.now.name free) (F.past folder.old) result (F.past folder.new) }
         ensures spares { GoesIn (Spares (has_word self.now.known.now) self.now.admin.now.name) (F.past folder.old) result (F.past folder.new) }
+        ensures ends { OnOk result (Turns (λ before left. IsLessAt path.now before left × (has_leaf (left path.now) ≡ false)) (F.past folder.old) (F.past folder.new)) }
     {
         if self.known.is_own_leaf(self.alloc, folder, path)? {
             return take(folder, Step::RemoveFile(path.clone()?));
@@ -140,6 +143,7 @@ impl Doing<'_> {
     fn remove_directory<F: Folder>(&self, folder: &mut F, path: &RelPath) -> Result<(), DiskFault>
         ensures steps { (free : Path → Bool) → free path.now ≡ true → Goes (is_changing self.now.admin.now.name free) (F.past folder.old) result (F.past folder.new) }
         ensures spares { GoesIn (Spares (has_word self.now.known.now) self.now.admin.now.name) (F.past folder.old) result (F.past folder.new) }
+        ensures ends { OnOk result (Turns (IsLessAt path.now) (F.past folder.old) (F.past folder.new)) }
     {
         if is_empty_directory(self.alloc, folder, path)? {
             return take(folder, Step::RemoveDirectory(path.clone()?));
@@ -151,6 +155,7 @@ impl Doing<'_> {
     fn remove_one<F: Folder>(&self, folder: &mut F, item: &Work) -> Result<(), DiskFault>
         ensures steps { (free : Path → Bool) → free (path_of item.now) ≡ true → Goes (is_changing self.now.admin.now.name free) (F.past folder.old) result (F.past folder.new) }
         ensures spares { GoesIn (Spares (has_word self.now.known.now) self.now.admin.now.name) (F.past folder.old) result (F.past folder.new) }
+        ensures ends { OnOk result (Turns (IsOneGone item.now) (F.past folder.old) (F.past folder.new)) }
     {
         match item {
             Work::RemoveFile(path) => self.remove_file(folder, path),
@@ -163,6 +168,7 @@ impl Doing<'_> {
     fn remove_all<F: Folder>(&self, folder: &mut F) -> Result<(), DiskFault>
         ensures steps { (free : Path → Bool) → list_all (λ item. free (path_of item)) self.now.task.now.work.items ≡ true → Goes (is_changing self.now.admin.now.name free) (F.past folder.old) result (F.past folder.new) }
         ensures spares { GoesIn (Spares (has_word self.now.known.now) self.now.admin.now.name) (F.past folder.old) result (F.past folder.new) }
+        ensures ends { OnOk result (Turns (AreRemoved (removals_in self.now.task.now)) (F.past folder.old) (F.past folder.new)) }
     {
         let removals = self.task.removals();
         for item in removals {
@@ -175,6 +181,7 @@ impl Doing<'_> {
     fn make_one<F: Folder>(&self, folder: &mut F, item: &Work) -> Result<(), DiskFault>
         ensures steps { (free : Path → Bool) → free (path_of item.now) ≡ true → Goes (is_changing self.now.admin.now.name free) (F.past folder.old) result (F.past folder.new) }
         ensures spares { GoesIn (Spares (has_word self.now.known.now) self.now.admin.now.name) (F.past folder.old) result (F.past folder.new) }
+        ensures ends { OnOk result (Turns (IsOneMade item.now) (F.past folder.old) (F.past folder.new)) }
     {
         match item {
             Work::MakeDirectory(path) => make_directory_if_none(self.alloc, folder, path),
@@ -186,6 +193,7 @@ impl Doing<'_> {
     fn make_directories<F: Folder>(&self, folder: &mut F, work: &[Work]) -> Result<(), DiskFault>
         ensures steps { (free : Path → Bool) → list_all (λ item. free (path_of item)) work.now ≡ true → Goes (is_changing self.now.admin.now.name free) (F.past folder.old) result (F.past folder.new) }
         ensures spares { GoesIn (Spares (has_word self.now.known.now) self.now.admin.now.name) (F.past folder.old) result (F.past folder.new) }
+        ensures ends { OnOk result (Turns (AreMade work.now) (F.past folder.old) (F.past folder.new)) }
     {
         for item in work {
             self.make_one(folder, item)?;
@@ -202,6 +210,7 @@ impl Doing<'_> {
     ) -> Result<(), DiskFault>
         ensures steps { (free : Path → Bool) → free path.now ≡ true → Goes (is_changing self.now.admin.now.name free) (F.past folder.old) result (F.past folder.new) }
         ensures spares { GoesIn (Spares (has_word self.now.known.now) self.now.admin.now.name) (F.past folder.old) result (F.past folder.new) }
+        ensures ends { OnOk result (Turns (IsMoved (own_place self.now.admin.now.name number) path.now) (F.past folder.old) (F.past folder.new)) }
     {
         self.known.is_own_leaf(self.alloc, folder, path)?;
         rename(folder, &self.admin.new_file(self.alloc, number)?, path)
@@ -216,6 +225,7 @@ impl Doing<'_> {
     ) -> Result<(), DiskFault>
         ensures steps { (free : Path → Bool) → free (path_of item.now) ≡ true → Goes (is_changing self.now.admin.now.name free) (F.past folder.old) result (F.past folder.new) }
         ensures spares { GoesIn (Spares (has_word self.now.known.now) self.now.admin.now.name) (F.past folder.old) result (F.past folder.new) }
+        ensures ends { OnOk result (Turns (IsOnePlaced self.now.admin.now.name number item.now) (F.past folder.old) (F.past folder.new)) }
     {
         match item {
             Work::InstallFile(path) => self.place(folder, path, number),
@@ -227,6 +237,7 @@ impl Doing<'_> {
     fn place_files<F: Folder>(&self, folder: &mut F, work: &[Work]) -> Result<(), DiskFault>
         ensures steps { (free : Path → Bool) → list_all (λ item. free (path_of item)) work.now ≡ true → Goes (is_changing self.now.admin.now.name free) (F.past folder.old) result (F.past folder.new) }
         ensures spares { GoesIn (Spares (has_word self.now.known.now) self.now.admin.now.name) (F.past folder.old) result (F.past folder.new) }
+        ensures ends { self.now.admin.now.name ≡ codes ".svn" → list_all (λ item. is_outside (path_of item)) work.now ≡ true → AreDistinct work.now → OnOk result (Turns (λ before left. AreDirectories work.now before → AreDone (codes ".svn") work.now before left) (F.past folder.old) (F.past folder.new)) }
     {
         let mut number = 0usize;
         for item in work {
@@ -240,6 +251,7 @@ impl Doing<'_> {
     fn make_all<F: Folder>(&self, folder: &mut F) -> Result<(), DiskFault>
         ensures steps { (free : Path → Bool) → list_all (λ item. free (path_of item)) self.now.task.now.work.items ≡ true → Goes (is_changing self.now.admin.now.name free) (F.past folder.old) result (F.past folder.new) }
         ensures spares { GoesIn (Spares (has_word self.now.known.now) self.now.admin.now.name) (F.past folder.old) result (F.past folder.new) }
+        ensures ends { self.now.admin.now.name ≡ codes ".svn" → list_all (λ item. is_outside (path_of item)) (makings_in self.now.task.now) ≡ true → AreDistinct (makings_in self.now.task.now) → OnOk result (Turns (AreDone (codes ".svn") (makings_in self.now.task.now)) (F.past folder.old) (F.past folder.new)) }
     {
         let makings = self.task.makings();
         self.make_directories(folder, makings)?;
@@ -291,6 +303,7 @@ impl Doing<'_> {
     ) -> Result<(), DiskFault>
         requires { self.now.admin.now.name ≡ codes ".svn" }
         ensures steps { Goes (is_inside (codes ".svn")) (F.past folder.old) result (F.past folder.new) }
+        ensures ends { OnOk result (Turns (IsExchanged (codes ".svn")) (F.past folder.old) (F.past folder.new)) }
         ensures crash { self.now.sync ≡ true → (nodes : List (Path × BaseNode)) → StandsFor nodes image.items → Runs (IsSafe (codes ".svn") nodes) (IsWhole (codes ".svn") nodes) (IsSafe (codes ".svn") nodes) (F.past folder.old) result (F.past folder.new) }
     {
         let exchange = Exchange { now, image };
@@ -306,6 +319,7 @@ impl Doing<'_> {
     ) -> Result<(), DiskFault>
         requires { self.now.admin.now.name ≡ codes ".svn" }
         ensures steps { Goes (is_inside (codes ".svn")) (F.past folder.old) result (F.past folder.new) }
+        ensures ends { OnOk result (Turns (IsExchanged (codes ".svn")) (F.past folder.old) (F.past folder.new)) }
         ensures crash { self.now.sync ≡ true → (nodes : List (Path × BaseNode)) → MatchOption image ⊤ (λ image. StandsFor nodes image.items) → Runs (IsSafe (codes ".svn") nodes) (IsWhole (codes ".svn") nodes) (IsSafe (codes ".svn") nodes) (F.past folder.old) result (F.past folder.new) }
     {
         match image {
@@ -326,8 +340,11 @@ impl Doing<'_> {
         requires outside { list_all (λ item. is_outside (path_of item)) self.now.task.now.work.items ≡ true }
         ensures steps { (free : Path → Bool) → list_all (λ item. free (path_of item)) self.now.task.now.work.items ≡ true → Goes (is_doing (codes ".svn") free) (F.past folder.old) result (F.past folder.new) }
         ensures spares { GoesIn (Spares (has_word self.now.known.now) (codes ".svn")) (F.past folder.old) result (F.past folder.new) }
+        ensures ends { AreDistinct (makings_in self.now.task.now) → OnOk result (Turns (AreCarried (codes ".svn") (removals_in self.now.task.now) (makings_in self.now.task.now)) (F.past folder.old) (F.past folder.new)) }
         ensures crash { self.now.sync ≡ true → (nodes : List (Path × BaseNode)) → AreOfNodes nodes databases → Runs (IsSafe (codes ".svn") nodes) (IsWhole (codes ".svn") nodes) (IsSafe (codes ".svn") nodes) (F.past folder.old) result (F.past folder.new) }
     {
+        // a list has fewer items than a number counts
+        let _count = self.task.work.len();
         let Databases {
             first,
             between,

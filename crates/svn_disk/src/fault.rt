@@ -69,6 +69,9 @@ pub enum DiskFault {
     /// The copy is locked, or has work left that isn't this library's, or that a client has changed since. Nothing was changed.
     #[error("locked, or with unfinished work of a client: run `svn cleanup`")]
     Foreign,
+    /// Two items of the work are about the same path. Nothing was changed. Of a change this is a fault of this crate.
+    #[error("{0}: work is left for it twice: run `svn cleanup`")]
+    Repeated(RelPath),
     /// The database can't be read, or isn't that of a copy.
     #[error("{0}")]
     Database(Refusal),

@@ -1,5 +1,6 @@
 //! The texts that a copy keeps, by which what is on disk is known to be nobody's edit.
-ghost use Rattle.std.specs.Prelude.{◌≡◌, ◌||◌, ℕ, List, true, bytes_eq, IfOk, OnOk};
+ghost use Rattle.std.specs.Prelude.{◌≡◌, ◌||◌, ℕ, List, true, false, bytes_eq, IfOk, OnOk};
+ghost use Rattle.svn_folder.specs.Entries.{has_leaf};
 ghost use Rattle.svn_folder.specs.States.{seen};
 ghost use Rattle.svn_disk.specs.Goes.{IsAlways};
 ghost use Rattle.svn_disk.specs.Spared.{IsOwn, has_text, texts_in};
@@ -72,10 +73,12 @@ impl KnownTexts {
         folder: &F,
         path: &RelPath,
     ) -> Result<bool, DiskFault>
-        ensures { OnOk result (IsAlways (λ s. IsOwn (has_word self.now) (seen s path.now)) (F.past folder.now)) }
+        ensures own { OnOk result (IsAlways (λ s. IsOwn (has_word self.now) (seen s path.now)) (F.past folder.now)) }
+        ensures leafless { IfOk result (λ is. is ≡ false → IsAlways (λ s. has_leaf (seen s path.now) ≡ false) (F.past folder.now)) }
     {
         match find(alloc, folder, path)? {
-            Found::Nothing | Found::Directory => Ok(false),
+            Found::Nothing => Ok(false),
+            Found::Directory => Ok(false),
             Found::Leaf(text) => {
                 if self.has(text.as_slice()) || self.has_reading(alloc, folder, path)? {
                     Ok(true)

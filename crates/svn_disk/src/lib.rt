@@ -30,13 +30,15 @@
 //! | `existing`, `clearing`, `completion` | one that is on disk; what was cut off before there was one; what was cut off, completed |
 //! | `above`, `plan`, `wanted` | the directories above a path; what becomes of each path between two copies; what a copy is brought to |
 //! | `on_disk`, `missing`, `local`, `refusals` | what is on disk; what isn't any more; local changes in the way; all that is in the way |
-//! | `task`, `known`, `doing`, `database_image` | the work that is left; the texts by which a file is nobody's edit; the work, done; the databases that follow |
+//! | `task`, `repeated`, `known` | the work that is left; paths with work twice; the texts by which a file is nobody's edit |
+//! | `doing`, `database_image` | the work, done; the databases that follow |
 //! | `rows`, `temporary`, `preparing`, `bringing` | rows of a changed copy; what an earlier run left; the new state, prepared; a copy on disk, brought to it |
 //! | `truth`, `mending` | what of a copy is untrue, put right; the same on disk |
 //! | `laws` | what the crash theorem rests on, of a rename |
 //!
 //! Definitions, in the order of reading: `specs/Goes.antt` (which steps a call takes), `Places.antt` (where they are), `Plans.antt` (what is written of a
-//! copy), `Crashes.antt` (what a crash leaves during a checkout, a change and a completion), `Ends.antt` (what a folder shows once a call is over),
+//! copy), `Tasks.antt` (work in two parts), `Crashes.antt` (what a crash leaves during a checkout, a change and a completion), `Ends.antt` (what a folder shows
+//! once a call is over), `Changes.antt` (what becomes of each path of a change),
 //! `Readings.antt` (what text of a repository a file on disk may be), `Spared.antt` (what a step replaces or removes), `Queue.antt` (what work is about),
 //! `Laws.antt`.
 //!
@@ -46,6 +48,10 @@
 //! the whole one (`LeavesAfter`): at `.svn/wc.db` a file whose bytes stand for a copy with just these nodes, and of each file the pristine text, by its
 //! checksum (`IsWhole`). Once it has returned Ok each node of the copy but its root is at its place, with `sync` or without (`AreAtPlaces`): a directory; or a
 //! file with its text, byte for byte, or the link that the text says, each by the checksum of the text.
+//!
+//! Once [`bring`] or [`mend`] has returned Ok, each path that it returns is as it says (`AreChanged`, `IsMended`): where something comes is the node of the
+//! new copy, as after a checkout, and where a file goes and nothing comes is no file and no link. Once [`resume`] has completed a copy, all items of its queue
+//! are done in this sense (`IsCompleted`). A directory that goes stays if something is in it that isn't the copy's.
 //!
 //! Each step of [`bring`] is inside of `.svn`, or makes a directory, places what had no name yet, or removes a file or a directory, at the path of a node of
 //! the old copy or of the new one (`is_of_change`), so that nothing else is changed (`a_change_changes_nothing_else`). With `sync`, where the old copy is on
@@ -61,8 +67,8 @@
 //! [`mend`], those of the new copy (`texts_of_either`).
 //!
 //! A crash is one of `svn_folder`, so this is said of folders whose steps are known; of a folder of the system no contract speaks. Not proved, and tested by
-//! `test_disk` at each step: that after a change, a mend and a completion the files of the copy are at their places, that a checkout replaces no file, and
-//! that the work which a crash leaves is all that is left to do.
+//! `test_disk` at each step: that a change and a mend return each path that changes, that a checkout replaces no file, and that the work which a crash leaves
+//! is all that is left to do.
 #![tactic(auto)]
 
 mod above;
@@ -92,6 +98,7 @@ mod prepared;
 mod preparing;
 mod read_back;
 mod refusals;
+mod repeated;
 mod rows;
 mod settle;
 mod source;

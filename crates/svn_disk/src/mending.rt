@@ -6,6 +6,7 @@ ghost use Rattle.svn_model.specs.Nodes.{get_in, IsTrueOf};
 ghost use Rattle.svn_wcrows.specs.Tables.{AllRows, seen_tables};
 ghost use Rattle.svn_disk.specs.Goes.{IsAlways, Goes, no_step};
 ghost use Rattle.svn_disk.specs.Queue.{HasDatabaseRows};
+ghost use Rattle.svn_disk.specs.Changes.{IsMended};
 ghost use Rattle.svn_disk.specs.Spared.{GoesIn, SparesOthers};
 ghost use Rattle.svn_disk.specs.Crashes.{HasDatabase, IsThere, IsTrueThere, IsThereOrTrue, IsKept, IsMending, LeavesFrom, AfterFrom};
 
@@ -80,6 +81,7 @@ pub fn mend<F: Folder, S: Source>(
     ensures spares { (rows : AllRows) → IsAlways (HasDatabaseRows rows) (F.past folder.old.folder) → Goes no_step (F.past folder.old.folder) result (F.past folder.new.folder) ⊎ SparesOthers what.now.repo.now rows.pristine (λ P. GoesIn P (F.past folder.old.folder) result (F.past folder.new.folder)) }
     ensures crash { what.now.sync ≡ true → (copy : List (Path × BaseNode)) → LeavesFrom (IsKept copy) (IsThereOrTrue copy what.now.repo.now) (F.past folder.old.folder) (F.past folder.new.folder) }
     ensures after { what.now.sync ≡ true → (copy : List (Path × BaseNode)) → OnOk result (AfterFrom (IsKept copy) (IsTrueThere what.now.repo.now) (F.past folder.old.folder) (F.past folder.new.folder)) }
+    ensures ends { IfOk result (λ changes. IsMended what.now.repo.now (F.past folder.old.folder) changes.items (F.past folder.new.folder)) }
 {
     let (existing, wanted) = begin(alloc, folder, what)?;
     bring(alloc, folder, source, &existing, &wanted, what.sync)

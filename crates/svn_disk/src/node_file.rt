@@ -2,12 +2,14 @@
 ghost use Rattle.std.specs.Prelude.{◌≡◌, ◌++◌, codes, IfOk, IfSome};
 ghost use Rattle.std.specs.Option.{option_map};
 ghost use Rattle.svn_disk.specs.Plans.{text_of_node};
+ghost use Rattle.svn_disk.specs.Tasks.{node_at};
 
 use crate::normal::{Keywords, with_line_ends, without_values};
 use std::alloc::{AllocError, Global};
 use svn_folder::Mode;
 use svn_model::BaseNode;
-use svn_types::{Props, Text};
+use svn_types::{Props, RelPath, Text};
+use svn_wc::WorkingCopy;
 
 /// What the text of a symbolic link begins with.
 pub(crate) const LINK: &[u8] = b"link ";
@@ -53,6 +55,16 @@ pub(crate) fn props_if_locked(alloc: Global, props: &Props) -> Result<Props, All
         }
     }
     Ok(others)
+}
+
+/// The text and the properties of a file of a copy; none if the copy has no file at the path.
+pub(crate) fn file_at<'a>(copy: &'a WorkingCopy, path: &RelPath) -> Option<(&'a Text, &'a Props)>
+    ensures { option_map (λ found. found.0.now) result ≡ text_of_node (node_at copy.now path.now) }
+{
+    match copy.get(path) {
+        Some(node) => file_of(node),
+        None => None,
+    }
 }
 
 /// Whether a file is a symbolic link on disk, if its text says of which: the property `svn:special`.

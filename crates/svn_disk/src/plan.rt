@@ -1,4 +1,8 @@
 //! What differs between two working copies, and what is done on disk to get from one to the other.
+ghost use Rattle.std.specs.Prelude.{◌≡◌, ◌++◌, [], true, map, IfOk, OnOk};
+ghost use Rattle.std.specs.List.{flat_map};
+ghost use Rattle.svn_model.specs.Nodes.{get_in, is_dir};
+ghost use Rattle.svn_disk.specs.Changes.{comes, goes, making_directory, making_file, removing_directory, removing_file, makings_of, removals_of};
 
 use crate::above::note_above;
 use crate::fault::DiskFault;
@@ -33,12 +37,16 @@ pub enum Change {
 
 impl Change {
     /// Whether something is removed.
-    fn removes(self) -> bool {
+    fn removes(self) -> bool
+        ensures { result ≡ goes self }
+    {
         matches!(self, Change::Removed | Change::Replaced)
     }
 
     /// Whether something is made.
-    fn makes(self) -> bool {
+    fn makes(self) -> bool
+        ensures { result ≡ comes self }
+    {
         matches!(
             self,
             Change::Added | Change::Replaced | Change::Rewritten | Change::Restored
@@ -122,9 +130,9 @@ fn change_of(old: Option<&BaseNode>, new: Option<&BaseNode>) -> Option<Change> {
 #[derive(Drop)]
 pub(crate) struct Plan<'a> {
     /// The copy that is there.
-    pub(crate) old: &'a WorkingCopy,
+    pub(crate) was: &'a WorkingCopy,
     /// The copy that is wanted.
-    pub(crate) new: &'a WorkingCopy,
+    pub(crate) wanted: &'a WorkingCopy,
     /// What becomes of each path at which something does.
     pub(crate) changes: BTreeMap<RelPath, Change>,
 }
@@ -135,10 +143,12 @@ impl<'a> Plan<'a> {
         alloc: Global,
         old: &'a WorkingCopy,
         new: &'a WorkingCopy,
-    ) -> Result<Plan<'a>, DiskFault> {
+    ) -> Result<Plan<'a>, DiskFault>
+        ensures copies { IfOk result (λ plan. (plan.was.now ≡ old.now) × (plan.wanted.now ≡ new.now)) }
+    {
         let mut plan = Plan {
-            old,
-            new,
+            was: old,
+            wanted: new,
             changes: BTreeMap::new(alloc),
         };
         plan.note_all(old)?;
@@ -147,9 +157,11 @@ impl<'a> Plan<'a> {
     }
 
     // Notes what becomes of each path of a copy.
-    fn note_all(&mut self, copy: &WorkingCopy) -> Result<(), DiskFault> {
+    fn note_all(&mut self, copy: &WorkingCopy) -> Result<(), DiskFault>
+        ensures copies { (self.new.was ≡ self.old.was) × (self.new.wanted ≡ self.old.wanted) }
+    {
         for (path, _) in copy.iter() {
-            if let Some(change) = change_of(self.old.get(path), self.new.get(path)) {
+            if let Some(change) = change_of(self.was.get(path), self.wanted.get(path)) {
                 self.changes.insert(path.clone()?, change)?;
             }
         }
@@ -179,11 +191,9 @@ impl<'a> Plan<'a> {
     }
 
     /// Plans the directories that aren't on disk, and that something comes in.
-    pub(crate) fn restore<F: Folder>(
-        &mut self,
-        alloc: Global,
-        folder: &F,
-    ) -> Result<(), DiskFault> {
+    pub(crate) fn restore<F: Folder>(&mut self, alloc: Global, folder: &F) -> Result<(), DiskFault>
+        ensures copies { (self.new.was ≡ self.old.was) × (self.new.wanted ≡ self.old.wanted) }
+    {
         for path in self.above_makings(alloc)? {
             let is_planned = match self.changes.get(&path) {
                 Some(change) => change.makes(),
@@ -202,14 +212,16 @@ impl<'a> Plan<'a> {
             Some(change) => change.is_on_disk(),
             None => false,
         };
-        match self.new.get(path) {
+        match self.wanted.get(path) {
             Some(node) => node.is_present() && !is_planned,
             None => false,
         }
     }
 
     /// Plans those of these nodes that stay, since they aren't on disk.
-    pub(crate) fn restore_nodes(&mut self, missing: &BTreeSet<RelPath>) -> Result<(), DiskFault> {
+    pub(crate) fn restore_nodes(&mut self, missing: &BTreeSet<RelPath>) -> Result<(), DiskFault>
+        ensures copies { (self.new.was ≡ self.old.was) × (self.new.wanted ≡ self.old.wanted) }
+    {
         for path in missing {
             if self.stays(path) {
                 self.changes.insert(path.clone()?, Change::Restored)?;
@@ -219,7 +231,9 @@ impl<'a> Plan<'a> {
     }
 
     /// Whether nothing differs.
-    pub(crate) fn is_empty(&self) -> bool {
+    pub(crate) fn is_empty(&self) -> bool
+        ensures { result ≡ true → self.now.changes.entries ≡ [] }
+    {
         self.changes.is_empty()
     }
 
@@ -247,43 +261,135 @@ impl<'a> Plan<'a> {
         }
     }
 
-    /// The files that go, and then the directories, from below.
-    pub(crate) fn removals(&self, alloc: Global) -> Result<Vec<Work>, DiskFault> {
-        let mut work = Vec::new(alloc);
-        let mut directories = Vec::new(alloc);
-        for (path, change) in &self.changes {
-            if change.removes() {
-                if is_directory(self.old.get(path)) {
-                    directories.push(Work::RemoveDirectory(path.clone()?))?;
-                } else {
-                    work.push(Work::RemoveFile(path.clone()?))?;
-                }
-            }
+    // Adds the directory at a path to what goes, if it does.
+    fn push_removing_directory(
+        &self,
+        work: &mut Vec<Work>,
+        path: &RelPath,
+        change: Change,
+    ) -> Result<(), DiskFault>
+        ensures { OnOk result (work.new.items ≡ work.old.items ++ removing_directory self.now.was.now (path.now, change)) }
+    {
+        if change.removes() && is_directory(self.was, path) {
+            work.push(Work::RemoveDirectory(path.clone()?))?;
         }
+        Ok(())
+    }
+
+    // The directories that go.
+    fn directories_that_go(&self, alloc: Global) -> Result<Vec<Work>, DiskFault>
+        ensures { IfOk result (λ work. work.items ≡ flat_map (removing_directory self.now.was.now) self.now.changes.entries) }
+    {
+        let mut work = Vec::new(alloc);
+        for (path, change) in &self.changes {
+            self.push_removing_directory(&mut work, path, *change)?;
+        }
+        Ok(work)
+    }
+
+    // Adds the file at a path to what goes, if it does.
+    fn push_removing_file(
+        &self,
+        work: &mut Vec<Work>,
+        path: &RelPath,
+        change: Change,
+    ) -> Result<(), DiskFault>
+        ensures { OnOk result (work.new.items ≡ work.old.items ++ removing_file self.now.was.now (path.now, change)) }
+    {
+        if change.removes() && !is_directory(self.was, path) {
+            work.push(Work::RemoveFile(path.clone()?))?;
+        }
+        Ok(())
+    }
+
+    // The files that go.
+    fn files_that_go(&self, alloc: Global) -> Result<Vec<Work>, DiskFault>
+        ensures { IfOk result (λ work. work.items ≡ flat_map (removing_file self.now.was.now) self.now.changes.entries) }
+    {
+        let mut work = Vec::new(alloc);
+        for (path, change) in &self.changes {
+            self.push_removing_file(&mut work, path, *change)?;
+        }
+        Ok(work)
+    }
+
+    /// The files that go, and then the directories, from below.
+    pub(crate) fn removals(&self, alloc: Global) -> Result<Vec<Work>, DiskFault>
+        ensures { IfOk result (λ work. work.items ≡ removals_of self.now.was.now self.now.changes.entries) }
+    {
+        let mut work = self.files_that_go(alloc)?;
+        let mut directories = self.directories_that_go(alloc)?;
         directories.reverse();
         work.append(&mut directories)?;
         Ok(work)
     }
 
-    /// The directories that come, from above, and then the files that come or become others.
-    pub(crate) fn makings(&self, alloc: Global) -> Result<Vec<Work>, DiskFault> {
-        let mut work = Vec::new(alloc);
-        let mut files = Vec::new(alloc);
-        for (path, change) in &self.changes {
-            if change.makes() {
-                if is_directory(self.new.get(path)) {
-                    work.push(Work::MakeDirectory(path.clone()?))?;
-                } else {
-                    files.push(Work::InstallFile(path.clone()?))?;
-                }
-            }
+    // Adds the directory at a path to what comes, if it does.
+    fn push_making_directory(
+        &self,
+        work: &mut Vec<Work>,
+        path: &RelPath,
+        change: Change,
+    ) -> Result<(), DiskFault>
+        ensures { OnOk result (work.new.items ≡ work.old.items ++ making_directory self.now.wanted.now (path.now, change)) }
+    {
+        if change.makes() && is_directory(self.wanted, path) {
+            work.push(Work::MakeDirectory(path.clone()?))?;
         }
+        Ok(())
+    }
+
+    // The directories that come.
+    fn directories_that_come(&self, alloc: Global) -> Result<Vec<Work>, DiskFault>
+        ensures { IfOk result (λ work. work.items ≡ flat_map (making_directory self.now.wanted.now) self.now.changes.entries) }
+    {
+        let mut work = Vec::new(alloc);
+        for (path, change) in &self.changes {
+            self.push_making_directory(&mut work, path, *change)?;
+        }
+        Ok(work)
+    }
+
+    // Adds the file at a path to what comes, if it does.
+    fn push_making_file(
+        &self,
+        work: &mut Vec<Work>,
+        path: &RelPath,
+        change: Change,
+    ) -> Result<(), DiskFault>
+        ensures { OnOk result (work.new.items ≡ work.old.items ++ making_file self.now.wanted.now (path.now, change)) }
+    {
+        if change.makes() && !is_directory(self.wanted, path) {
+            work.push(Work::InstallFile(path.clone()?))?;
+        }
+        Ok(())
+    }
+
+    // The files that come, or become others.
+    fn files_that_come(&self, alloc: Global) -> Result<Vec<Work>, DiskFault>
+        ensures { IfOk result (λ work. work.items ≡ flat_map (making_file self.now.wanted.now) self.now.changes.entries) }
+    {
+        let mut work = Vec::new(alloc);
+        for (path, change) in &self.changes {
+            self.push_making_file(&mut work, path, *change)?;
+        }
+        Ok(work)
+    }
+
+    /// The directories that come, from above, and then the files that come or become others.
+    pub(crate) fn makings(&self, alloc: Global) -> Result<Vec<Work>, DiskFault>
+        ensures { IfOk result (λ work. work.items ≡ makings_of self.now.wanted.now self.now.changes.entries) }
+    {
+        let mut work = self.directories_that_come(alloc)?;
+        let mut files = self.files_that_come(alloc)?;
         work.append(&mut files)?;
         Ok(work)
     }
 
     /// What becomes of each path, in path order.
-    pub(crate) fn into_changes(self, alloc: Global) -> Result<Vec<PathChange>, DiskFault> {
+    pub(crate) fn into_changes(self, alloc: Global) -> Result<Vec<PathChange>, DiskFault>
+        ensures { IfOk result (λ list. map (λ change. (change.path, change.change)) list.items ≡ self.entry.changes.entries) }
+    {
         let Plan { changes, .. } = self;
         let mut list = Vec::new(alloc);
         for (path, change) in changes {
@@ -293,9 +399,11 @@ impl<'a> Plan<'a> {
     }
 }
 
-// Whether it is a directory.
-fn is_directory(node: Option<&BaseNode>) -> bool {
-    match node {
+// Whether a copy has a directory at a path.
+fn is_directory(copy: &WorkingCopy, path: &RelPath) -> bool
+    ensures { result ≡ is_dir (get_in copy.now path.now) }
+{
+    match copy.get(path) {
         Some(node) => node.is_directory(),
         None => false,
     }

@@ -1,13 +1,15 @@
 //! What a copy on disk is brought to, prepared beside it: its texts, its files under names of their own, and its databases.
-ghost use Rattle.std.specs.Prelude.{IfOk, OnOk};
-ghost use Rattle.svn_disk.specs.Crashes.{AreNodesOf, IsAdding};
+ghost use Rattle.std.specs.Prelude.{◌≡◌, true, IfOk, OnOk};
+ghost use Rattle.svn_disk.specs.Tasks.{makings_in, node_at, work_node, work_nodes};
+ghost use Rattle.svn_disk.specs.Crashes.{AreNodesOf, IsAdding, OfText};
+ghost use Rattle.svn_disk.specs.Ends.{Turns, files_at, files_of, IsHeld, StayHeld, is_noted, StayNoted, IsNoted, AreNoted, AreFiles, CopiesNode, AreCopied};
 
 use crate::bringing::Bringing;
 use crate::carry::files_in;
 use crate::contents::copy_of;
 use crate::database_image::Images;
 use crate::fault::DiskFault;
-use crate::node_file::file_of;
+use crate::node_file::file_at;
 use crate::prepared::{Prepared, prepare_unless_locked};
 use crate::rows::{RowMaker, Sizes};
 use crate::source::Source;
@@ -52,7 +54,16 @@ fn kept_rows(alloc: Global, rows: &[TableRow]) -> Result<Vec<TableRow>, DiskFaul
 }
 
 impl Bringing<'_> {
-    // Keeps the text of the file that comes to a path, and prepares the file under the name of its own that has that number.
+    // Whether the client has locked the file that comes to a path in the repository.
+    fn is_locked(&self, path: &RelPath) -> bool {
+        match self.wanted.copy.get(path) {
+            Some(node) => self.existing.has_lock(node),
+            None => false,
+        }
+    }
+
+    // Keeps the text of the file that comes to a path, and prepares the file under the name of its own that has that number. Elsewhere where no file of the
+    // new copy is there: a fault of this crate.
     fn prepare_file<F: Folder, S: Source>(
         &self,
         folder: &mut F,
@@ -60,14 +71,17 @@ impl Bringing<'_> {
         keeping: &mut Keeping,
         file: (&RelPath, usize),
     ) -> Result<(), DiskFault>
-        ensures { IsAdding self.now.admin.now.name (F.past folder.old) result (F.past folder.new) }
+        ensures adds { IsAdding self.now.admin.now.name (F.past folder.old) result (F.past folder.new) }
+        ensures file { OnOk result (files_at (node_at self.now.wanted.now.copy file.entry.0.now) ≡ 1) }
+        ensures held { OnOk result (OfText (IsHeld keeping.new.texts.sizes.entries) (node_at self.now.wanted.now.copy file.entry.0.now)) }
+        ensures others { OnOk result (StayHeld keeping.old.texts.sizes.entries keeping.new.texts.sizes.entries) }
+        ensures noted { OnOk result (is_noted keeping.new.sizes.entries file.entry.0.now ≡ true) }
+        ensures all { OnOk result (StayNoted keeping.old.sizes.entries keeping.new.sizes.entries) }
+        ensures ends { OnOk result (Turns (CopiesNode self.now.admin.now.name file.entry.1 (IsHeld keeping.old.texts.sizes.entries) (node_at self.now.wanted.now.copy file.entry.0.now)) (F.past folder.old) (F.past folder.new)) }
     {
         let (path, number) = file;
-        let Some(node) = self.wanted.copy.get(path) else {
-            return Ok(());
-        };
-        let Some((name, props)) = file_of(node) else {
-            return Ok(());
+        let Some((name, props)) = file_at(&self.wanted.copy, path) else {
+            return Err(DiskFault::Elsewhere(path.clone()?));
         };
         let rows = &mut keeping.rows;
         let size = keeping
@@ -75,7 +89,7 @@ impl Bringing<'_> {
             .keep_whole(folder, source, self.admin, rows, (path, name))?;
         let time = Some(self.wanted.time);
         let what = Prepared { name, props, time };
-        let is_locked = self.existing.has_lock(node);
+        let is_locked = self.is_locked(path);
         let is_file = prepare_unless_locked(
             self.alloc,
             folder,
@@ -96,7 +110,13 @@ impl Bringing<'_> {
         keeping: &mut Keeping,
         work: (&Work, usize),
     ) -> Result<(), DiskFault>
-        ensures { IsAdding self.now.admin.now.name (F.past folder.old) result (F.past folder.new) }
+        ensures adds { IsAdding self.now.admin.now.name (F.past folder.old) result (F.past folder.new) }
+        ensures file { OnOk result (files_at (work_node self.now.wanted.now.copy work.entry.0.now) ≡ files_of work.entry.0.now) }
+        ensures held { OnOk result (OfText (IsHeld keeping.new.texts.sizes.entries) (work_node self.now.wanted.now.copy work.entry.0.now)) }
+        ensures others { OnOk result (StayHeld keeping.old.texts.sizes.entries keeping.new.texts.sizes.entries) }
+        ensures noted { OnOk result (IsNoted keeping.new.sizes.entries work.entry.0.now) }
+        ensures all { OnOk result (StayNoted keeping.old.sizes.entries keeping.new.sizes.entries) }
+        ensures ends { OnOk result (Turns (CopiesNode self.now.admin.now.name work.entry.1 (IsHeld keeping.old.texts.sizes.entries) (work_node self.now.wanted.now.copy work.entry.0.now)) (F.past folder.old) (F.past folder.new)) }
     {
         let (item, number) = work;
         match item {
@@ -113,7 +133,10 @@ impl Bringing<'_> {
         keeping: &mut Keeping,
         work: &[Work],
     ) -> Result<(), DiskFault>
-        ensures { IsAdding self.now.admin.now.name (F.past folder.old) result (F.past folder.new) }
+        ensures adds { IsAdding self.now.admin.now.name (F.past folder.old) result (F.past folder.new) }
+        ensures files { OnOk result (AreFiles self.now.wanted.now.copy work.now) }
+        ensures noted { OnOk result (AreNoted keeping.new.sizes.entries work.now) }
+        ensures ends { OnOk result (Turns (λ before left. AreCopied self.now.admin.now.name 0 (work_nodes self.now.wanted.now.copy work.now) left) (F.past folder.old) (F.past folder.new)) }
     {
         let mut number = 0usize;
         for item in work {
@@ -142,7 +165,8 @@ impl Bringing<'_> {
         tables: Tables,
         keeping: Keeping,
     ) -> Result<Ready, DiskFault>
-        ensures { IfOk result (λ ready. AreNodesOf self.now.wanted.now.copy ready.images.nodes.items) }
+        ensures nodes { IfOk result (λ ready. AreNodesOf self.now.wanted.now.copy ready.images.nodes.items) }
+        ensures sizes { IfOk result (λ ready. ready.sizes ≡ keeping.sizes) }
     {
         let Keeping { rows, sizes, .. } = keeping;
         let maker = RowMaker {
@@ -205,6 +229,9 @@ impl Bringing<'_> {
     ) -> Result<Ready, DiskFault>
         ensures adds { IsAdding self.now.admin.now.name (F.past folder.old) result (F.past folder.new) }
         ensures nodes { IfOk result (λ ready. AreNodesOf self.now.wanted.now.copy ready.images.nodes.items) }
+        ensures files { OnOk result (AreFiles self.now.wanted.now.copy (makings_in task.now)) }
+        ensures noted { IfOk result (λ ready. AreNoted ready.sizes.entries (makings_in task.now)) }
+        ensures ends { OnOk result (Turns (λ before left. AreCopied self.now.admin.now.name 0 (work_nodes self.now.wanted.now.copy (makings_in task.now)) left) (F.past folder.old) (F.past folder.new)) }
     {
         clear_temporary(self.alloc, folder, self.admin)?;
         let (tables, mut keeping) = self.begin()?;

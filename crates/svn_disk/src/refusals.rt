@@ -57,7 +57,7 @@ impl<F: Folder> Beside<'_, F> {
     fn refuse_others_in(&self, path: &RelPath) -> Result<(), DiskFault> {
         for name in self.folder.list(self.alloc, path)? {
             let below = path.join(self.alloc, &name)?;
-            let is_own = match self.plan.old.get(&below) {
+            let is_own = match self.plan.was.get(&below) {
                 Some(node) => node.is_present(),
                 None => false,
             };
@@ -102,7 +102,7 @@ impl<F: Folder> Beside<'_, F> {
 
     // Refuses what is at a path that changes.
     fn refuse_at(&self, path: &RelPath, change: Change) -> Result<(), DiskFault> {
-        match (change, self.plan.old.get(path)) {
+        match (change, self.plan.was.get(path)) {
             (Change::Recorded | Change::Bumped, _) => Ok(()),
             (Change::Removed | Change::Replaced | Change::Rewritten, Some(node)) => {
                 self.refuse_node(path, node)

@@ -1,9 +1,11 @@
 //! What is left to do on disk for a change: what goes, and then what comes.
-ghost use Rattle.std.specs.Prelude.{◌≡◌, Bool, true, IfSome};
-ghost use Rattle.std.specs.List.{list_all};
+ghost use Rattle.std.specs.Prelude.{◌≡◌, [], Bool, true, IfOk, IfSome};
+ghost use Rattle.std.specs.List.{list_all, list_any};
 ghost use Rattle.svn_wcrows.specs.declared.work.Work.{Work};
 ghost use Rattle.svn_disk.specs.Places.{is_outside};
 ghost use Rattle.svn_disk.specs.Plans.{path_of};
+ghost use Rattle.svn_disk.specs.Tasks.{removals_in, makings_in, is_removal, IsParted};
+ghost use Rattle.svn_disk.specs.Changes.{removals_of, makings_of};
 
 use crate::fault::DiskFault;
 use crate::layout::is_outside;
@@ -22,11 +24,27 @@ pub(crate) struct Task {
     removals: usize,
 }
 
-fn is_removal(work: &Work) -> bool {
+fn is_removal(work: &Work) -> bool
+    ensures { result ≡ is_removal work.now }
+{
     match work {
         Work::RemoveFile(_) | Work::RemoveDirectory(_) => true,
         Work::MakeDirectory(_) | Work::InstallFile(_) => false,
     }
+}
+
+// Whether all of it removes something.
+fn all_go(work: &[Work]) -> bool
+    ensures { result ≡ list_all is_removal work.now }
+{
+    work.iter().all(|item| is_removal(item))
+}
+
+// Whether some of it removes something.
+fn any_goes(work: &[Work]) -> bool
+    ensures { result ≡ list_any is_removal work.now }
+{
+    work.iter().any(|item| is_removal(item))
 }
 
 // Whether none of it is in the administrative folder, or at the path of the copy itself.
@@ -38,7 +56,10 @@ fn is_all_outside(work: &[Work]) -> bool
 
 impl Task {
     /// That of a plan.
-    pub(crate) fn of_plan(alloc: Global, plan: &Plan<'_>) -> Result<Task, DiskFault> {
+    pub(crate) fn of_plan(alloc: Global, plan: &Plan<'_>) -> Result<Task, DiskFault>
+        ensures removals { IfOk result (λ task. removals_in task ≡ removals_of plan.now.was.now plan.now.changes.entries) }
+        ensures makings { IfOk result (λ task. makings_in task ≡ makings_of plan.now.wanted.now plan.now.changes.entries) }
+    {
         let mut work = plan.removals(alloc)?;
         let removals = work.len();
         let mut makings = plan.makings(alloc)?;
@@ -50,6 +71,7 @@ impl Task {
     pub(crate) fn of_queue(work: Vec<Work>) -> Option<Task>
         ensures outside { IfSome result (λ task. list_all (λ item. is_outside (path_of item)) task.work.items ≡ true) }
         ensures same { IfSome result (λ task. task.work.items ≡ work.items) }
+        ensures parted { IfSome result (λ task. IsParted task) }
     {
         if !is_all_outside(&work) {
             return None;
@@ -59,16 +81,20 @@ impl Task {
             .position(|item| !is_removal(item))
             .unwrap_or(work.len());
         let task = Task { work, removals };
-        if task.makings().iter().any(is_removal) {
-            None
-        } else {
-            Some(task)
-        }
+        if task.is_parted() { Some(task) } else { None }
+    }
+
+    // Whether all that goes comes first.
+    fn is_parted(&self) -> bool
+        ensures { result ≡ true → IsParted self.now }
+    {
+        all_go(self.removals()) && !any_goes(self.makings())
     }
 
     /// What goes.
     pub(crate) fn removals(&self) -> &[Work]
-        ensures { (P : Work → Bool) → list_all P self.now.work.items ≡ true → list_all P result.now ≡ true }
+        ensures all { (P : Work → Bool) → list_all P self.now.work.items ≡ true → list_all P result.now ≡ true }
+        ensures same { result.now ≡ removals_in self.now }
     {
         let count = self.removals.min(self.work.len());
         &self.work[..count]
@@ -76,14 +102,17 @@ impl Task {
 
     /// What comes.
     pub(crate) fn makings(&self) -> &[Work]
-        ensures { (P : Work → Bool) → list_all P self.now.work.items ≡ true → list_all P result.now ≡ true }
+        ensures all { (P : Work → Bool) → list_all P self.now.work.items ≡ true → list_all P result.now ≡ true }
+        ensures same { result.now ≡ makings_in self.now }
     {
         let count = self.removals.min(self.work.len());
         &self.work[count..]
     }
 
     /// Whether nothing is left to do.
-    pub(crate) fn is_empty(&self) -> bool {
+    pub(crate) fn is_empty(&self) -> bool
+        ensures { result ≡ true → self.now.work.items ≡ [] }
+    {
         self.work.is_empty()
     }
 

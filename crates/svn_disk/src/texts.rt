@@ -77,7 +77,10 @@ pub(crate) fn has_text<F: Folder>(
 #[derive(Drop)]
 pub(crate) struct Texts {
     alloc: Global,
+    // Those that were written, or that the folder was looked at for.
     sizes: BTreeMap<[u8; 20], u64>,
+    // Those that have rows.
+    listed: BTreeMap<[u8; 20], u64>,
 }
 
 impl Texts {
@@ -86,6 +89,7 @@ impl Texts {
         Texts {
             alloc,
             sizes: BTreeMap::new(alloc),
+            listed: BTreeMap::new(alloc),
         }
     }
 
@@ -95,14 +99,14 @@ impl Texts {
         for row in rows {
             if let (Some(name), Some(size)) = (text_at(row, 0), number_at(row, 2)) {
                 let sum = sum_of(alloc, &Text::from_slice(alloc, name)?)?;
-                texts.sizes.insert(sum.0, size)?;
+                texts.listed.insert(sum.0, size)?;
             }
         }
         Ok(texts)
     }
 
     /// Keeps the text of a file of a copy that is on disk: as `keep`, and writes it anew where it has a row, and the folder hasn't its bytes under its
-    /// name.
+    /// name. Each text is looked at once, so that none is written again once a file was made of it.
     pub(crate) fn keep_whole<F: Folder, S: Source>(
         &mut self,
         folder: &mut F,
@@ -111,13 +115,47 @@ impl Texts {
         rows: &mut Vec<TableRow>,
         file: (&RelPath, &Text),
     ) -> Result<u64, DiskFault>
-        ensures { IsAdding admin.now.name (F.past folder.old) result (F.past folder.new) }
+        ensures adds { IsAdding admin.now.name (F.past folder.old) result (F.past folder.new) }
+        ensures ends { OnOk result (Turns (KeepsText admin.now.name self.old.sizes.entries file.entry.1.now) (F.past folder.old) (F.past folder.new)) }
+        ensures held { OnOk result (IsHeld self.new.sizes.entries file.entry.1.now) }
+        ensures others { OnOk result ((name : List ℕ) → IsHeld self.old.sizes.entries name → IsHeld self.new.sizes.entries name) }
     {
-        self.put_lost(folder, source, admin, file)?;
-        self.keep(folder, source, admin, rows, file)
+        let (_, name) = file;
+        let sum = sum_of(self.alloc, name)?;
+        match self.listed.get(&sum.0) {
+            Some(size) => {
+                let size = *size;
+                self.keep_listed(folder, source, admin, file, size)
+            }
+            None => self.keep(folder, source, admin, rows, file),
+        }
     }
 
-    // Writes a text anew that has a row, and that the folder hasn't under its name.
+    // Keeps a text that has a row: looks at the folder for it, unless that was done.
+    fn keep_listed<F: Folder, S: Source>(
+        &mut self,
+        folder: &mut F,
+        source: &mut S,
+        admin: &Admin,
+        file: (&RelPath, &Text),
+        size: u64,
+    ) -> Result<u64, DiskFault>
+        ensures adds { IsAdding admin.now.name (F.past folder.old) result (F.past folder.new) }
+        ensures ends { OnOk result (Turns (KeepsText admin.now.name self.old.sizes.entries file.entry.1.now) (F.past folder.old) (F.past folder.new)) }
+        ensures held { OnOk result (IsHeld self.new.sizes.entries file.entry.1.now) }
+        ensures others { OnOk result ((name : List ℕ) → IsHeld self.old.sizes.entries name → IsHeld self.new.sizes.entries name) }
+    {
+        let (_, name) = file;
+        let sum = sum_of(self.alloc, name)?;
+        if let Some(size) = self.sizes.get(&sum.0) {
+            return Ok(*size);
+        }
+        self.put_lost(folder, source, admin, file)?;
+        self.sizes.insert(sum.0, size)?;
+        Ok(size)
+    }
+
+    // Writes a text anew that the folder hasn't under its name.
     fn put_lost<F: Folder, S: Source>(
         &self,
         folder: &mut F,
@@ -125,17 +163,18 @@ impl Texts {
         admin: &Admin,
         file: (&RelPath, &Text),
     ) -> Result<(), DiskFault>
-        ensures { IsAdding admin.now.name (F.past folder.old) result (F.past folder.new) }
+        ensures adds { IsAdding admin.now.name (F.past folder.old) result (F.past folder.new) }
+        ensures stays { OnOk result (Turns (StaysBut (new_text_place admin.now.name) (text_place admin.now.name file.entry.1.now)) (F.past folder.old) (F.past folder.new)) }
     {
-        let (path, name) = file;
-        let sum = sum_of(self.alloc, name)?;
-        if !self.sizes.contains_key(&sum.0) || has_text(self.alloc, folder, admin, name)? {
+        let (path, text) = file;
+        let sum = sum_of(self.alloc, text)?;
+        if has_text(self.alloc, folder, admin, text)? {
             return Ok(());
         }
         if source.begin_text(&sum).is_none() {
             return Err(DiskFault::NoText(path.clone()?));
         }
-        self.put(folder, source, admin, name)
+        self.put(folder, source, admin, text)
     }
 
     // Gives a text that was written its name, unless it is there already: a text that is kept is never replaced.

@@ -3,6 +3,9 @@ use Rattle.std.specs.Prelude.{codes}
 use Rattle.svn_disk.specs.Crashes.{IsSafe}
 use Rattle.svn_disk.proofs.Going.{goes_more, stops_there}
 use Rattle.svn_disk.proofs.Running.{runs_more, breaks_there}
+use Rattle.svn_disk.specs.Ends.{IsExchanged}
+use Rattle.svn_disk.proofs.Ends.{ends_more}
+use Rattle.svn_disk.proofs.EndsDone.{exchanged_more}
 use Rattle.svn_disk.proofs.carry.replace_database.Goals as goal
 
 pub returns-in_err-make_database-clause-crash : goal.returns-in_err-make_database-clause-crash
@@ -23,3 +26,9 @@ pub returns-clause-crash : goal.returns-clause-crash
 returns-clause-crash g c = λ sync is one two stands.
     runs_more (IsSafe (codes ".svn") two) (g.F.Folder.past c.put_database.new.folder) c.put_database.result
     (c.in_ok-make_database.ensures.crash sync is one two stands).0 (c.put_database.ensures.crash sync is one two)
+
+pub returns-clause-ends : goal.returns-clause-ends
+returns-clause-ends g c =
+    let n = c.args.admin.now.name in
+    ends_more (IsExchanged n) (IsExchanged n) (g.F.Folder.past c.put_database.new.folder) c.put_database.result (exchanged_more n) c.in_ok-make_database.ensures.ends
+    c.put_database.ensures.ends

@@ -24,11 +24,11 @@ pub returns-in_default-clause-files : goal.returns-in_default-clause-files
 returns-in_default-clause-files g c = count_none c.args.entry.1.now c.args.progress.now.files (sym c.in_default.ensures)
 
 pub returns-in_default-clause-held : goal.returns-in_default-clause-held
-returns-in_default-clause-held g c = none_held c.args.entry.1.now (sym c.in_default.ensures) c.args.progress.now.texts.sizes.entries
+returns-in_default-clause-held g c = none_held c.args.entry.1.now (sym c.in_default.ensures) (IsHeld c.args.progress.now.texts.sizes.entries)
 
 pub returns-in_default-clause-ends : goal.returns-in_default-clause-ends
 returns-in_default-clause-ends g c =
-    none_turns c.args.making.now.admin.now.name c.args.progress.now.texts.sizes.entries c.args.progress.now.files c.args.entry.1.now
+    none_turns c.args.making.now.admin.now.name (IsHeld c.args.progress.now.texts.sizes.entries) c.args.progress.now.files c.args.entry.1.now
     (g.F.Folder.past c.args.folder.now) (sym c.in_default.ensures)
 
 pub returns-clause-files : goal.returns-clause-files
@@ -39,7 +39,7 @@ returns-clause-files g c =
 pub returns-clause-held : goal.returns-clause-held
 returns-clause-held g c =
     subst (λ (x : Texts). OfText (IsHeld x.sizes.entries) c.args.entry.1.now) (sym c.in_ok-push_row.ensures.texts)
-    (node_held c.args.entry.1.now c.in-Some.name.now c.in-Some.ensures c.keep.new.self.sizes.entries c.in_ok-size.ensures.held)
+    (node_held c.args.entry.1.now c.in-Some.name.now c.in-Some.ensures (IsHeld c.keep.new.self.sizes.entries) c.in_ok-size.ensures.held)
 
 pub returns-clause-others : goal.returns-clause-others
 returns-clause-others g c = λ name held.
@@ -52,6 +52,6 @@ returns-clause-ends g c =
     let i = c.args.progress.now.files in
     let small : i < 2 ^ 64 = omega arith in
     let node = c.args.entry.1.now in
-    turns_more (CopiesNode n i sizes node)
+    turns_more (CopiesNode n i (IsHeld sizes) node)
     (λ a b x keeps copies. node_comes node c.in-Some.name.now c.in-Some.ensures n sizes i a b x small c.in_ok-is_file.ensures.stands keeps copies)
     c.in_ok-size.ensures.ends c.in_ok-is_file.ensures.ends

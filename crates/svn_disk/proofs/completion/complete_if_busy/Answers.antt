@@ -10,3 +10,6 @@ returns-then-not-is_busy-clause-crash g c = λ sync. (
       (safe_left (codes ".svn") c.args.existing.nodes.items) (g.F.Folder.past c.args.folder.now),
   tt,
 )
+
+pub returns-clause-ends : goal.returns-clause-ends
+returns-clause-ends g c = λ is. c.in_ok-complete.ensures.ends

@@ -7,6 +7,7 @@ use Rattle.svn_disk.proofs.Going.{stops_none}
 use Rattle.svn_disk.proofs.Running.{breaks_leaves, leads_leaves, leads_after, runs_leaves, runs_after}
 use Rattle.svn_disk.proofs.Copies.{runs_read, aside_leads, aside_breaks, there_none, kept_left}
 use Rattle.svn_disk.proofs.Queue.{queue_read, spares_read}
+use Rattle.svn_disk.proofs.EndsAgain.{completed_read}
 use Rattle.svn_disk.proofs.completion.resume.Goals as goal
 
 pub returns-in-Ok-clause-steps : goal.returns-in-Ok-clause-steps
@@ -54,6 +55,12 @@ returns-in-Err g c = record {
   steps = inl (tt, stops_none (is_inside (codes ".svn-new")) (g.F.Folder.past c.args.folder.now));
   queue = λ rows has. inl (tt, stops_none (is_inside (codes ".svn-new")) (g.F.Folder.past c.args.folder.now));
   spares = λ rows has. inl (tt, stops_none (is_inside (codes ".svn-new")) (g.F.Folder.past c.args.folder.now));
+  ends = λ rows copy has stands is. absurd cc;
   crash = λ sync copy. breaks_leaves (there_none copy (g.F.Folder.past c.args.folder.now));
   after = λ sync copy. tt;
 }
+
+pub returns-in-Ok-clause-ends : goal.returns-in-Ok-clause-ends
+returns-in-Ok-clause-ends g c = λ rows copy has stands is.
+    completed_read (seen_tables c.in-Ok.existing.tables) rows c.in-Ok.existing.copy copy c.in-Ok.existing.nodes.items (g.F.Folder.past c.args.folder.now)
+    (g.F.Folder.past c.complete_if_busy.new.folder) c.in-Ok.ensures.rows has c.in-Ok.ensures.nodes c.in-Ok.ensures.database stands (c.complete_if_busy.ensures.ends is)

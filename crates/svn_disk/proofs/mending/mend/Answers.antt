@@ -1,10 +1,14 @@
-use Rattle.std.proofs.Common.{inl, inr, rules}
+use Rattle.std.proofs.Common.{Vec, Global, inl, inr, rules}
 use Rattle.svn_wcrows.specs.Tables.{seen_tables}
 use Rattle.svn_disk.specs.Goes.{Stops, no_step}
 use Rattle.svn_disk.proofs.Going.{stops_none}
 use Rattle.svn_disk.proofs.Running.{breaks_leaves}
 use Rattle.svn_disk.proofs.Copies.{mend_none, leaves_read, after_read_ok}
 use Rattle.svn_disk.proofs.Queue.{either_read}
+use Rattle.svn_disk.specs.declared.plan.PathChange.{PathChange}
+use Rattle.svn_disk.specs.Changes.{AreChanged, IsMended}
+use Rattle.svn_disk.specs.Ends.{Turns}
+use Rattle.svn_disk.proofs.EndsChange.{on_value}
 use Rattle.svn_disk.proofs.mending.mend.Goals as goal
 
 pub returns-in_err-existing-clause-steps : goal.returns-in_err-existing-clause-steps
@@ -46,3 +50,13 @@ returns-clause-spares g c = λ rows has. inr (record {
   spares = either_read (seen_tables c.in_ok-existing.existing.tables) rows (g.F.Folder.past c.args.folder.now.folder) (g.F.Folder.past c.bring.new.folder.folder)
       c.bring.result c.in_ok-existing.ensures.rows has c.in_ok-existing.wanted.copy c.bring.ensures.spares;
 })
+
+pub returns-clause-ends : goal.returns-clause-ends
+returns-clause-ends g c =
+    let old = c.in_ok-existing.existing.copy in
+    let new = c.in_ok-existing.wanted.copy in
+    let was = g.F.Folder.past c.args.folder.now.folder in
+    let now = g.F.Folder.past c.bring.new.folder.folder in
+    on_value (λ (list : Vec PathChange Global). Turns (λ a b. AreChanged old new list.items b) was now)
+    (λ (list : Vec PathChange Global). IsMended c.args.what.now.repo.now was list.items now) c.bring.result
+    (λ list turns. record { copy = old; other = new; was = c.in_ok-existing.ensures.was; is_true = c.in_ok-existing.ensures.is_true; ends = turns }) c.bring.ensures.ends

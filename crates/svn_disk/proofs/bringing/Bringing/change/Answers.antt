@@ -1,4 +1,4 @@
-use Rattle.std.proofs.Common.{List, inr, subst, sym, ◌∙◌, rules}
+use Rattle.std.proofs.Common.{◌≡◌, List, inr, min, length, subst, sym, ◌∙◌, arith, rules}
 use Rattle.std.specs.Prelude.{codes}
 use Rattle.svn_types.specs.Names.{Path}
 use Rattle.svn_model.specs.declared.base_node.BaseNode.{BaseNode}
@@ -12,6 +12,11 @@ use Rattle.svn_disk.proofs.Replacing.{one_none}
 use Rattle.svn_disk.specs.Spared.{texts_of_either}
 use Rattle.svn_disk.specs.Finding.{has_word}
 use Rattle.svn_disk.proofs.Sparing.{inside_keeps_in, inside_stops_in, goes_in_more, spares_more}
+use Rattle.svn_disk.specs.Tasks.{removals_in, makings_in, work_nodes}
+use Rattle.svn_disk.specs.Crashes.{AreNodesOf}
+use Rattle.svn_disk.specs.Ends.{Turns, AreCopied, AreReady, AreCarried, EachDone}
+use Rattle.svn_disk.proofs.Ends.{ends_more}
+use Rattle.svn_disk.proofs.EndsDone.{few_left, carried_done}
 use Rattle.svn_disk.proofs.bringing.Bringing.change.Goals as goal
 
 pub put-requires-clause-image : goal.put-requires-clause-image
@@ -78,3 +83,19 @@ returns-clause-spares g c =
     (inside_keeps_in known (codes ".svn") (g.F.Folder.past c.args.folder.now.folder) (g.F.Folder.past c.put.new.folder.folder) c.in_ok-put.ensures.steps.0)
     (spares_more (has_word c.in_ok-known.known) known c.in_ok-known.ensures (codes ".svn") (g.F.Folder.past c.put.new.folder.folder)
     (g.F.Folder.past c.carry_on.new.folder.folder) c.carry_on.result c.carry_on.ensures.spares)
+
+pub returns-clause-ends : goal.returns-clause-ends
+returns-clause-ends g c = λ parted distinct are files noted.
+    let copy = c.args.self.now.wanted.now.copy in
+    let task = c.args.task.now in
+    let work = makings_in task in
+    let counted = c.len-count.ensures in
+    let whole = task.work.ok.0 in
+    let few = few_left (min task.removals (length task.work.items)) task.work.items (omega (arith, counted, whole)) in
+    let same = subst (AreNodesOf copy) (sym (c.after.ensures.nodes ∙ c.next.ensures.nodes)) are in
+    ends_more (AreCarried (codes ".svn") (removals_in task) work)
+    (λ a x. AreCopied (codes ".svn") 0 (work_nodes copy work) a → EachDone copy task.work.items task.work.items x) (g.F.Folder.past c.carry_on.new.folder.folder)
+    c.carry_on.result
+    (λ a b x ready carried copied.
+    carried_done copy (min task.removals (length task.work.items)) task.work.items b x parted.removals parted.makings files (ready copied) carried)
+    (c.in_ok-put.ensures.ends copy work few same noted) (c.carry_on.ensures.ends distinct)

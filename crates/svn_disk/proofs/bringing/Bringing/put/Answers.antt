@@ -1,5 +1,5 @@
 use Rattle.std.proofs.Common.{List, inl, subst, rules}
-use Rattle.std.specs.Prelude.{codes}
+use Rattle.std.specs.Prelude.{codes, OnOk}
 use Rattle.svn_types.specs.Names.{Path}
 use Rattle.svn_types.proofs.NameLemmas.{Name}
 use Rattle.svn_model.specs.declared.base_node.BaseNode.{BaseNode}
@@ -11,6 +11,15 @@ use Rattle.svn_disk.specs.Crashes.{IsWhole, IsOneOf, IsSafe, IsBoth, Leads}
 use Rattle.svn_disk.proofs.Going.{goes_more, keeps_more, stops_more, stops_there, keeps_wider, stops_wider}
 use Rattle.svn_disk.proofs.Placing.{sync_inside}
 use Rattle.svn_disk.proofs.Running.{runs_more, leads_more, breaks_more, breaks_there, leads_along, breaks_along}
+use Rattle.svn_folder.specs.States.{seen}
+use Rattle.svn_disk.specs.Goes.{IsAlways}
+use Rattle.svn_disk.specs.Tasks.{work_nodes}
+use Rattle.svn_disk.specs.Crashes.{IsTextIn}
+use Rattle.svn_disk.specs.Ends.{Turns, EachNoted, AreCopied, AreReady, IsSame, IsExchanged}
+use Rattle.svn_disk.proofs.Ends.{turns_known, ends_more, keeps_turns}
+use Rattle.svn_disk.proofs.EndsCopy.{syncs_same}
+use Rattle.svn_disk.proofs.EndsDone.{exchanged_more}
+use Rattle.svn_disk.proofs.EndsChange.{ready_now, ready_exchanged}
 use Rattle.svn_disk.proofs.bringing.Bringing.put.Goals as goal
 
 one_of : (old new : List (Path × BaseNode)) (left : Seen) → IsWhole (codes ".svn") old left → IsOneOf old new left
@@ -83,3 +92,24 @@ returns-clause-crash g c = λ sync old are.
     runs_more (IsSafe (codes ".svn") new) (g.F.Folder.past c.put_database.new.folder.folder) c.put_database.result
     (leads_more settled (c.in_ok-make_database.ensures.crash sync c.requires.name old new c.requires.image).0)
     (c.put_database.ensures.crash sync c.requires.name old new)
+
+-- ---- what is there in the end
+
+pub returns-clause-ends : goal.returns-clause-ends
+returns-clause-ends g c = λ copy work few are noted.
+    let nodes = work_nodes copy work in
+    let now = g.F.Folder.past c.settle_all.new.folder.folder in
+    let m = c.args.self.now.admin.now.name in
+    let coming = subst (λ (xs : List (Path × BaseNode)). IsAlways (λ s. EachNoted c.args.ready.now.sizes.entries (IsTextIn (codes ".svn") (seen s)) xs) now)
+    c.deref.ensures.value c.in_ok-settle_all.ensures.coming in
+    let settled = keeps_turns IsSame is_sync (g.F.Folder.past c.args.folder.now.folder) now syncs_same c.in_ok-settle_all.ensures.steps.0 in
+    let replaced = subst (λ (n : Name). OnOk c.put_database.result (Turns (IsExchanged n) now (g.F.Folder.past c.put_database.new.folder.folder))) c.requires.name
+    (ends_more (IsExchanged m) (IsExchanged m) (g.F.Folder.past c.put_database.new.folder.folder) c.put_database.result (exchanged_more m)
+    c.in_ok-make_database.ensures.ends c.put_database.ensures.ends) in
+    ends_more (IsExchanged (codes ".svn")) (λ a b. AreCopied (codes ".svn") 0 nodes a → AreReady (codes ".svn") 0 nodes b)
+    (g.F.Folder.past c.put_database.new.folder.folder) c.put_database.result
+    (λ a b x ready exchanged copied. ready_exchanged copy work b x few exchanged (ready copied))
+    (turns_known (λ s. EachNoted c.args.ready.now.sizes.entries (IsTextIn (codes ".svn") (seen s)) c.args.ready.now.images.nodes.items) IsSame
+    (λ a b. AreCopied (codes ".svn") 0 nodes a → AreReady (codes ".svn") 0 nodes b) (g.F.Folder.past c.args.folder.now.folder) now coming
+    (λ a s each same copied. ready_now c.args.ready.now.sizes.entries copy c.args.ready.now.images.nodes.items work a (seen s) are noted each same copied) settled)
+    replaced

@@ -1,11 +1,12 @@
 use Rattle.std.proofs.Common.{List, subst, rules}
-use Rattle.std.specs.Prelude.{codes}
+use Rattle.std.specs.Prelude.{codes, OnOk}
 use Rattle.svn_types.specs.Names.{Path}
 use Rattle.svn_types.proofs.NameLemmas.{Name}
 use Rattle.svn_model.specs.declared.base_node.BaseNode.{BaseNode}
 use Rattle.svn_folder.specs.States.{seen}
 use Rattle.svn_disk.specs.Goes.{IsAlways}
 use Rattle.svn_disk.specs.Crashes.{EachText, IsTextIn}
+use Rattle.svn_disk.specs.Ends.{EachNoted}
 use Rattle.svn_disk.proofs.Going.{goes_there}
 use Rattle.svn_disk.proofs.Replacing.{settled_runs, syncs_breaks}
 use Rattle.svn_disk.proofs.bringing.Bringing.settle_all.Goals as goal
@@ -24,4 +25,9 @@ returns-clause-crash g c = λ sync old are.
     (λ given.
     subst (λ (n : Name). IsAlways (λ s. EachText (IsTextIn n (seen s)) old → EachText (IsTextIn n (seen s)) c.args.nodes.now)
     (g.F.Folder.past c.settle.new.folder.folder)) c.requires (given old are))
-    c.read_texts.ensures
+    c.read_texts.ensures.texts
+
+pub returns-clause-coming : goal.returns-clause-coming
+returns-clause-coming g c =
+    subst (λ (n : Name). OnOk c.read_texts.result (IsAlways (λ s. EachNoted c.args.sizes.now.entries (IsTextIn n (seen s)) c.args.nodes.now)
+    (g.F.Folder.past c.settle.new.folder.folder))) c.requires c.read_texts.ensures.coming

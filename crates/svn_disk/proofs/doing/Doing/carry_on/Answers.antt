@@ -1,4 +1,4 @@
-use Rattle.std.proofs.Common.{List, ◌≡◌, true, ap, subst, rules}
+use Rattle.std.proofs.Common.{List, ◌≡◌, true, min, length, ap, subst, arith, rules}
 use Rattle.std.specs.Prelude.{codes}
 use Rattle.svn_types.specs.Names.{Path}
 use Rattle.svn_types.proofs.NameLemmas.{Name}
@@ -8,10 +8,15 @@ use Rattle.svn_disk.specs.Plans.{path_of}
 use Rattle.svn_disk.specs.Crashes.{IsSafe}
 use Rattle.svn_disk.specs.Spared.{KeepsIn, StopsIn, Spares}
 use Rattle.svn_disk.specs.Finding.{has_word}
+use Rattle.svn_disk.specs.Tasks.{removals_in, makings_in}
+use Rattle.svn_disk.specs.Ends.{IsExchanged, AreCarried}
 use Rattle.svn_disk.proofs.Going.{keeps_more, stops_more, goes_more}
 use Rattle.svn_disk.proofs.Running.{leads_more, breaks_more, runs_more}
 use Rattle.svn_disk.proofs.Changing.{inside_keeps, inside_stops, inside_goes_doing, changing_keeps, changing_stops, changing_leads, changing_breaks}
 use Rattle.svn_disk.proofs.Sparing.{keeps_in_more, stops_in_more, goes_in_more, inside_keeps_in, inside_stops_in, inside_goes_in}
+use Rattle.svn_disk.proofs.Ends.{turns_more, ends_more}
+use Rattle.svn_disk.proofs.Changing.{all_taken, all_dropped}
+use Rattle.svn_disk.proofs.EndsDone.{HasRemoved, few_left, removed_exchanged, carried, carried_exchanged}
 use Rattle.svn_disk.proofs.doing.Doing.carry_on.Goals as goal
 
 -- ---- its steps
@@ -116,3 +121,21 @@ returns-clause-spares g c =
     c.in_ok-make_all.ensures.spares.0 in
     goes_in_more (g.F.Folder.past c.replace.new.folder) c.replace.result (keeps_in_more (keeps_in_more removed replaced) made)
     (inside_goes_in known (codes ".svn") (g.F.Folder.past c.make_all.new.folder) (g.F.Folder.past c.replace.new.folder) c.replace.result c.replace.ensures.steps)
+
+-- ---- what is shown in the end
+
+pub returns-clause-ends : goal.returns-clause-ends
+returns-clause-ends g c = λ distinct.
+    let task = c.args.self.now.task.now in
+    let counted = c.len-count.ensures in
+    let whole = task.work.ok.0 in
+    let few = few_left (min task.removals (length task.work.items)) task.work.items (omega (arith, counted, whole)) in
+    let outs = all_taken (λ item. is_outside (path_of item)) (min task.removals (length task.work.items)) task.work.items c.requires.outside in
+    let outside = all_dropped (λ item. is_outside (path_of item)) (min task.removals (length task.work.items)) task.work.items c.requires.outside in
+    ends_more (IsExchanged (codes ".svn")) (AreCarried (codes ".svn") (removals_in task) (makings_in task)) (g.F.Folder.past c.replace.new.folder) c.replace.result
+    (λ a d e all exchanged. carried_exchanged (removals_in task) (makings_in task) a d e outs outside all exchanged)
+    (turns_more (AreCarried (codes ".svn") (removals_in task) (makings_in task)) (λ a b d removed done. carried (removals_in task) (makings_in task) a b d few outs removed done)
+    (turns_more (HasRemoved (removals_in task)) (λ a b d removed exchanged. removed_exchanged (removals_in task) a b d outs removed exchanged)
+    c.in_ok-remove_all.ensures.ends c.in_ok-replace_if_any.ensures.ends)
+    (c.in_ok-make_all.ensures.ends c.requires.name outside distinct))
+    c.replace.ensures.ends
