@@ -1,0 +1,18 @@
+-- bytes that are known
+pub mod KnownBytes
+-- the calls of a drive as a client is sent them
+pub mod ClientCalls
+-- what is written of a drive
+pub mod Drives
+-- what is written after a report
+pub mod ReportRuns
+-- what is written to a client, by the bytes that it sends
+pub mod Serving
+-- commands that a report follows
+pub mod Answering
+-- what is read step by step
+pub mod Refusing
+-- a report as it is read
+pub mod Reported
+-- how a client is let in
+pub mod Greetings

@@ -1,0 +1,376 @@
+//! What a drive is asked for: `update`, `switch`, `status` and `diff`.
+ghost use Rattle.std.specs.Prelude.{◌≡◌, ◌∷◌, [], None, Option, List, ℕ, option_map, IfOk, IfSome};
+ghost use Rattle.std.specs.Option.{option_copied};
+ghost use Rattle.svn_types.specs.Paths.{last_name};
+ghost use Rattle.svn_repo.specs.History.{look};
+ghost use Rattle.svn_wire.specs.Fields.{bool_field, optional_number};
+ghost use Rattle.svn_served.specs.AskedFields.{last_rev, last_texts, update_asked, switch_asked, status_asked, diff_asked, asked_by};
+ghost use Rattle.svn_served.specs.Asking.{asked_as, IsWanted, IsWantedBy};
+ghost use Rattle.svn_served.specs.Refusals.{Gives};
+ghost use Rattle.svn_served.specs.Wanting.{driving_of, entry_name, updates, switches, entry_wanted, url_wanted, part_wanted, deep, wanted_with};
+
+use crate::fault::{Refused, code};
+use crate::notes::path_below;
+use crate::session::{View, failed, read_path};
+use std::alloc::AllocError;
+use svn_drive::Request;
+use svn_editor::Mode;
+use svn_types::{Name, RelPath, Rev};
+use svn_wire::{Token, bool_field, optional_number, text_field};
+
+/// The entry of the client's directory that alone is driven, where one is.
+#[derive(Debug, Drop)]
+pub(crate) struct Entry {
+    /// Its name at the client.
+    pub(crate) name: Name,
+    /// Its name in the report, which has the name that the target has there.
+    pub(crate) reported: Name,
+    /// The path in the repository of what the client has there, if no link says another one.
+    pub(crate) at: RelPath,
+}
+
+/// What a drive is asked for.
+#[derive(Debug, Drop)]
+pub(crate) struct Wanted {
+    /// The revision that it leads to, and whether it is an update or a switch.
+    pub(crate) request: Request,
+    /// The path in the repository of the report's root.
+    pub(crate) root: RelPath,
+    /// The one entry.
+    pub(crate) entry: Option<Entry>,
+    /// Whether texts are sent.
+    pub(crate) with_texts: bool,
+}
+
+// The fields that all four commands have.
+#[derive(Drop)]
+struct Asked<'a> {
+    rev: Option<u64>,
+    entry: &'a [u8],
+    recurse: bool,
+    url: Option<&'a [u8]>,
+    with_texts: bool,
+}
+
+#[tactic(auto, unfolding(crate::specs::AskedFields::update_asked))]
+fn update_fields(fields: &[Token]) -> Option<Asked<'_>>
+    ensures { option_map asked_as result ≡ update_asked fields.now }
+{
+    let (rev, fields) = optional_number(fields)?;
+    let (entry, fields) = text_field(fields)?;
+    let (recurse, _more) = bool_field(fields)?;
+    Some(Asked {
+        rev,
+        entry,
+        recurse,
+        url: None,
+        with_texts: true,
+    })
+}
+
+#[tactic(auto, unfolding(crate::specs::AskedFields::switch_asked))]
+fn switch_fields(fields: &[Token]) -> Option<Asked<'_>>
+    ensures { option_map asked_as result ≡ switch_asked fields.now }
+{
+    let (rev, fields) = optional_number(fields)?;
+    let (entry, fields) = text_field(fields)?;
+    let (recurse, fields) = bool_field(fields)?;
+    let (url, _more) = text_field(fields)?;
+    Some(Asked {
+        rev,
+        entry,
+        recurse,
+        url: Some(url),
+        with_texts: true,
+    })
+}
+
+fn last_rev(fields: &[Token]) -> Option<u64>
+    ensures { result ≡ last_rev (optional_number fields.now) }
+{
+    match optional_number(fields) {
+        Some((rev, _more)) => rev,
+        None => None,
+    }
+}
+
+// The revision may be left out at the end.
+#[tactic(auto, unfolding(crate::specs::AskedFields::status_asked))]
+fn status_fields(fields: &[Token]) -> Option<Asked<'_>>
+    ensures { option_map asked_as result ≡ status_asked fields.now }
+{
+    let (entry, fields) = text_field(fields)?;
+    let (recurse, fields) = bool_field(fields)?;
+    Some(Asked {
+        rev: last_rev(fields),
+        entry,
+        recurse,
+        url: None,
+        with_texts: false,
+    })
+}
+
+fn last_texts(fields: &[Token]) -> bool
+    ensures { result ≡ last_texts (bool_field fields.now) }
+{
+    match bool_field(fields) {
+        Some((with_texts, _more)) => with_texts,
+        None => true,
+    }
+}
+
+// Whether texts are wanted may be left out at the end: they are.
+#[tactic(auto, unfolding(crate::specs::AskedFields::diff_asked))]
+fn diff_fields(fields: &[Token]) -> Option<Asked<'_>>
+    ensures { option_map asked_as result ≡ diff_asked fields.now }
+{
+    let (rev, fields) = optional_number(fields)?;
+    let (entry, fields) = text_field(fields)?;
+    let (recurse, fields) = bool_field(fields)?;
+    let (_ignores_ancestry, fields) = bool_field(fields)?;
+    let (url, fields) = text_field(fields)?;
+    Some(Asked {
+        rev,
+        entry,
+        recurse,
+        url: Some(url),
+        with_texts: last_texts(fields),
+    })
+}
+
+/// Which of the four it is.
+#[derive(Clone, Copy)]
+pub(crate) enum Driving {
+    Update,
+    Switch,
+    Status,
+    Diff,
+}
+
+/// The command of that name, if it is one of the four.
+pub(crate) fn driving_of(name: &[u8]) -> Option<Driving>
+    ensures { result ≡ driving_of name.now }
+{
+    if name == b"update".as_slice() {
+        Some(Driving::Update)
+    } else if name == b"switch".as_slice() {
+        Some(Driving::Switch)
+    } else if name == b"status".as_slice() {
+        Some(Driving::Status)
+    } else if name == b"diff".as_slice() {
+        Some(Driving::Diff)
+    } else {
+        None
+    }
+}
+
+fn fields_of(driving: Driving, fields: &[Token]) -> Option<Asked<'_>>
+    ensures { option_map asked_as result ≡ asked_by driving fields.now }
+{
+    match driving {
+        Driving::Update => update_fields(fields),
+        Driving::Switch => switch_fields(fields),
+        Driving::Status => status_fields(fields),
+        Driving::Diff => diff_fields(fields),
+    }
+}
+
+impl View<'_> {
+    // What is wanted, by its parts.
+    fn wanted_with(
+        &self,
+        target: Rev,
+        mode: Mode,
+        root: RelPath,
+        entry: Option<Entry>,
+        with_texts: bool,
+    ) -> Wanted
+        ensures { result ≡ wanted_with self.now.served.now target mode root entry with_texts }
+    {
+        Wanted {
+            request: Request {
+                target,
+                mode,
+                options: self.served.options,
+            },
+            root,
+            entry,
+            with_texts,
+        }
+    }
+
+    // A name that the root of the target doesn't have, if one is found.
+    fn free_name(&self, target: Rev) -> Result<Option<Name>, AllocError>
+        ensures { IfOk result (λ free. IfSome free (λ name. look self.now.served.now.repo target (name ∷ []) ≡ None)) }
+    {
+        let mut text = String::new(self.alloc);
+        for _ in 0..255 {
+            text.push('x')?;
+            let Ok(name) = Name::parse(self.alloc, text.as_str()) else {
+                return Err(AllocError);
+            };
+            let path = path_below(self.alloc, &name, &RelPath::root(self.alloc))?;
+            if self.served.repo.lookup(target, &path).is_none() {
+                return Ok(Some(name));
+            }
+        }
+        Ok(None)
+    }
+
+    // The one name of a path.
+    fn only_name(&self, path: &RelPath) -> Result<Name, Refused>
+        ensures { Gives (λ name. name) result (entry_name path.now) }
+    {
+        match path.components() {
+            [name] => Ok(name.clone()?),
+            _ => Err(failed(
+                code::BAD_PATH,
+                format!(in self.alloc; "a target that isn't one name")?,
+            )),
+        }
+    }
+
+    // An update of one entry. Where its directory is gone in the target, it is said of a name that the root doesn't have: so the entry is deleted.
+    fn update_entry(
+        &self,
+        target: Rev,
+        name: Name,
+        at: RelPath,
+        with_texts: bool,
+    ) -> Result<Wanted, Refused>
+        ensures { (free : Option (List ℕ)) × IfSome free (λ other. look self.now.served.now.repo target (other ∷ []) ≡ None) × Gives (λ wanted. wanted) result (updates self.now.served.now self.now.session.now target free name at with_texts) }
+    {
+        if self.served.has_directory(target, &self.session.at) {
+            let root = self.session.at.clone()?;
+            let reported = name.clone()?;
+            let entry = Entry { name, reported, at };
+            return Ok(self.wanted_with(target, Mode::Update, root, Some(entry), with_texts));
+        }
+        match self.free_name(target)? {
+            Some(reported) => {
+                let root = RelPath::root(self.alloc);
+                let entry = Entry { name, reported, at };
+                Ok(self.wanted_with(target, Mode::Update, root, Some(entry), with_texts))
+            }
+            None => Err(failed(
+                code::UNSUPPORTED,
+                format!(in self.alloc; "a directory of all names isn't served")?,
+            )),
+        }
+    }
+
+    // A switch of one entry: the client's directory is as the one that the new path is in.
+    fn switch_entry(
+        &self,
+        target: Rev,
+        name: Name,
+        at: RelPath,
+        to: &RelPath,
+        with_texts: bool,
+    ) -> Result<Wanted, Refused>
+        ensures { Gives (λ wanted. wanted) result (switches self.now.served.now target name at to.now (last_name to.now) with_texts) }
+    {
+        let (Some(above), Some(last)) = (to.parent(self.alloc)?, to.last_name()) else {
+            return Err(failed(
+                code::UNSUPPORTED,
+                format!(in self.alloc;
+                    "a switch of an entry to the root of the repository isn't served"
+                )?,
+            ));
+        };
+        if !self.served.has_directory(target, &above) {
+            return Err(failed(
+                code::BAD_PATH,
+                format!(in self.alloc; "Target path '/{to}' does not exist")?,
+            ));
+        }
+        let reported = last.clone()?;
+        let entry = Entry { name, reported, at };
+        let mode = Mode::SwitchTo(above.clone()?);
+        Ok(self.wanted_with(target, mode, above, Some(entry), with_texts))
+    }
+
+    // One entry of the client's directory.
+    fn entry_wanted(
+        &self,
+        target: Rev,
+        name: Name,
+        to: Option<&RelPath>,
+        with_texts: bool,
+    ) -> Result<Wanted, Refused>
+        ensures { (free : Option (List ℕ)) × IfSome free (λ other. look self.now.served.now.repo target (other ∷ []) ≡ None) × Gives (λ wanted. wanted) result (entry_wanted self.now.served.now self.now.session.now target free name (option_copied to.entry) with_texts) }
+    {
+        let at = self.session.at.join(self.alloc, &name)?;
+        match to {
+            Some(to) => self.switch_entry(target, name, at, to, with_texts),
+            None => self.update_entry(target, name, at, with_texts),
+        }
+    }
+
+    // The path of the URL that is named, where one is.
+    fn url_wanted(&self, url: Option<&[u8]>) -> Result<Option<RelPath>, Refused>
+        ensures { Gives (λ to. to) result (url_wanted self.now.session.now (option_copied url.entry)) }
+    {
+        match url {
+            Some(url) => Ok(Some(self.session.path_of_url(self.alloc, url)?)),
+            None => Ok(None),
+        }
+    }
+
+    // The whole of the client's directory, or one entry of it.
+    fn part_wanted(
+        &self,
+        target: Rev,
+        entry: &[u8],
+        to: Option<RelPath>,
+        with_texts: bool,
+    ) -> Result<Wanted, Refused>
+        ensures { (free : Option (List ℕ)) × IfSome free (λ other. look self.now.served.now.repo target (other ∷ []) ≡ None) × Gives (λ wanted. wanted) result (part_wanted self.now.served.now self.now.session.now target free entry.now to with_texts) }
+    {
+        if entry.is_empty() {
+            let mode = match to {
+                Some(to) => Mode::SwitchTo(to),
+                None => Mode::Update,
+            };
+            let root = self.session.at.clone()?;
+            return Ok(self.wanted_with(target, mode, root, None, with_texts));
+        }
+        let path = read_path(self.alloc, entry)?;
+        let name = self.only_name(&path)?;
+        self.entry_wanted(target, name, to.as_ref(), with_texts)
+    }
+
+    // A depth without directories isn't served.
+    fn deep(&self, recurse: bool) -> Result<(), Refused>
+        ensures { Gives (λ done. done) result (deep recurse) }
+    {
+        if recurse {
+            Ok(())
+        } else {
+            Err(failed(
+                code::UNSUPPORTED,
+                format!(in self.alloc; "a depth without directories isn't served")?,
+            ))
+        }
+    }
+
+    #[tactic(auto, unfolding(crate::specs::Wanting::wanted_of))]
+    fn wanted_by(&self, asked: &Asked<'_>) -> Result<Wanted, Refused>
+        ensures { IsWanted self.now.served.now self.now.session.now (asked_as asked.now) result }
+    {
+        let target = self.rev(asked.rev)?;
+        self.deep(asked.recurse)?;
+        let to = self.url_wanted(asked.url)?;
+        self.part_wanted(target, asked.entry, to, asked.with_texts)
+    }
+
+    /// What a command asks for.
+    pub(crate) fn wanted(&self, driving: Driving, fields: &[Token]) -> Result<Wanted, Refused>
+        ensures { IsWantedBy self.now.served.now self.now.session.now (asked_by driving fields.now) result }
+    {
+        let Some(asked) = fields_of(driving, fields) else {
+            return Err(Refused::BadFields);
+        };
+        self.wanted_by(&asked)
+    }
+}

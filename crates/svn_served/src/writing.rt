@@ -1,0 +1,176 @@
+//! Answers, and their parts.
+ghost use Rattle.std.specs.Prelude.{◌≡◌, ◌++◌, ◌∷◌, [], codes, OnOk};
+ghost use Rattle.std.specs.List.{flat_map};
+ghost use Rattle.std.specs.Fmt.{decimal};
+ghost use Rattle.std.specs.Option.{option_copied};
+ghost use Rattle.svn_types.specs.PathTexts.{path_text};
+ghost use Rattle.svn_wire.specs.Writing.{number_bytes, text_bytes};
+ghost use Rattle.svn_wire_calls.specs.Calls.{optional};
+ghost use Rattle.svn_served.specs.Answers.{success, failure, no_mechanism, bool_bytes, kind_bytes, pair_bytes, known_pair, whole_path};
+
+use crate::fault::Failure;
+use itoa::Buffer;
+use std::alloc::AllocError;
+use svn_types::{Kind, Name, Props, RelPath, Rev, Text};
+use svn_wire::{push_number, push_text, push_word};
+
+pub(crate) fn push_open(out: &mut Vec<u8>) -> Result<(), AllocError>
+    ensures { OnOk result (out.new.items ≡ out.old.items ++ codes "( ") }
+{
+    out.extend_from_slice(b"( ")
+}
+
+pub(crate) fn push_close(out: &mut Vec<u8>) -> Result<(), AllocError>
+    ensures { OnOk result (out.new.items ≡ out.old.items ++ codes ") ") }
+{
+    out.extend_from_slice(b") ")
+}
+
+/// The beginning of the answer of a command that succeeds.
+pub(crate) fn push_success(out: &mut Vec<u8>) -> Result<(), AllocError>
+    ensures { OnOk result (out.new.items ≡ out.old.items ++ codes "( success ( ") }
+{
+    out.extend_from_slice(b"( success ( ")
+}
+
+/// The end of an answer.
+pub(crate) fn push_end(out: &mut Vec<u8>) -> Result<(), AllocError>
+    ensures { OnOk result (out.new.items ≡ out.old.items ++ codes ") ) ") }
+{
+    out.extend_from_slice(b") ) ")
+}
+
+/// The answer without results.
+pub(crate) fn push_done(out: &mut Vec<u8>) -> Result<(), AllocError>
+    ensures { OnOk result (out.new.items ≡ out.old.items ++ success []) }
+{
+    push_success(out)?;
+    push_end(out)
+}
+
+/// That no mechanism is asked for before a command is answered.
+pub(crate) fn push_no_mechanism(out: &mut Vec<u8>) -> Result<(), AllocError>
+    ensures { OnOk result (out.new.items ≡ out.old.items ++ no_mechanism) }
+{
+    out.extend_from_slice(b"( success ( ( ) 0: ) ) ")
+}
+
+/// Why a command fails.
+pub(crate) fn push_failure(out: &mut Vec<u8>, told: &Failure) -> Result<(), AllocError>
+    ensures { OnOk result (out.new.items ≡ out.old.items ++ failure told.now.code told.now.message) }
+{
+    out.extend_from_slice(b"( failure ( ( ")?;
+    push_number(out, told.code)?;
+    push_text(out, told.message.as_slice())?;
+    out.extend_from_slice(b"0: 0 ) ) ) ")
+}
+
+pub(crate) fn push_rev(out: &mut Vec<u8>, rev: Rev) -> Result<(), AllocError>
+    ensures { OnOk result (out.new.items ≡ out.old.items ++ number_bytes rev) }
+{
+    push_number(out, rev.0)
+}
+
+pub(crate) fn push_bool(out: &mut Vec<u8>, value: bool) -> Result<(), AllocError>
+    ensures { OnOk result (out.new.items ≡ out.old.items ++ bool_bytes value) }
+{
+    push_word(out, if value { b"true" } else { b"false" })
+}
+
+/// The kind of a node, or that none is there.
+pub(crate) fn push_kind(out: &mut Vec<u8>, kind: Option<Kind>) -> Result<(), AllocError>
+    ensures { OnOk result (out.new.items ≡ out.old.items ++ kind_bytes kind) }
+{
+    match kind {
+        Some(Kind::File) => push_word(out, b"file"),
+        Some(Kind::Directory) => push_word(out, b"dir"),
+        None => push_word(out, b"none"),
+    }
+}
+
+/// A list of one string or none.
+pub(crate) fn push_optional(out: &mut Vec<u8>, value: Option<&Text>) -> Result<(), AllocError>
+    ensures { OnOk result (out.new.items ≡ out.old.items ++ optional (option_copied value.entry)) }
+{
+    push_open(out)?;
+    if let Some(value) = value {
+        push_text(out, value.as_slice())?;
+    }
+    push_close(out)
+}
+
+/// A name and a value.
+pub(crate) fn push_pair(out: &mut Vec<u8>, name: &[u8], value: &[u8]) -> Result<(), AllocError>
+    ensures { OnOk result (out.new.items ≡ out.old.items ++ pair_bytes name.now value.now) }
+{
+    push_open(out)?;
+    push_text(out, name)?;
+    push_text(out, value)?;
+    push_close(out)
+}
+
+/// A name and a value that is a number.
+pub(crate) fn push_number_pair(out: &mut Vec<u8>, name: &[u8], value: u64) -> Result<(), AllocError>
+    ensures { OnOk result (out.new.items ≡ out.old.items ++ pair_bytes name.now (decimal value)) }
+{
+    let mut buffer = Buffer::new();
+    push_pair(out, name, buffer.format(value).as_bytes())
+}
+
+/// A name and a value that may be known.
+pub(crate) fn push_known_pair(
+    out: &mut Vec<u8>,
+    name: &[u8],
+    value: Option<&Text>,
+) -> Result<(), AllocError>
+    ensures { OnOk result (out.new.items ≡ out.old.items ++ known_pair name.now (option_copied value.entry)) }
+{
+    match value {
+        Some(value) => push_pair(out, name, value.as_slice()),
+        None => Ok(()),
+    }
+}
+
+/// Names and values.
+pub(crate) fn push_pairs(out: &mut Vec<u8>, props: &Props) -> Result<(), AllocError>
+    ensures { OnOk result (out.new.items ≡ out.old.items ++ flat_map (λ prop. pair_bytes prop.0 prop.1) props.now) }
+{
+    for (name, value) in props.iter() {
+        push_pair(out, name.as_str().as_bytes(), value.as_slice())?;
+    }
+    Ok(())
+}
+
+fn push_below(text: &mut Vec<u8>, names: &[Name]) -> Result<(), AllocError>
+    ensures { OnOk result (text.new.items ≡ text.old.items ++ flat_map (λ m. 47 ∷ m) names.now) }
+{
+    for name in names {
+        text.push(b'/')?;
+        text.extend_from_slice(name.as_str().as_bytes())?;
+    }
+    Ok(())
+}
+
+/// A path as a string, with a slash between names.
+pub(crate) fn push_path(out: &mut Vec<u8>, path: &RelPath) -> Result<(), AllocError>
+    ensures { OnOk result (out.new.items ≡ out.old.items ++ text_bytes (path_text path.now)) }
+{
+    let mut text = Vec::new(*out.allocator());
+    if let Some((first, rest)) = path.components().split_first() {
+        text.extend_from_slice(first.as_str().as_bytes())?;
+        push_below(&mut text, rest)?;
+    }
+    push_text(out, &text)
+}
+
+/// A path as a string, with a slash before each name; that of the root is a slash.
+pub(crate) fn push_whole_path(out: &mut Vec<u8>, path: &RelPath) -> Result<(), AllocError>
+    ensures { OnOk result (out.new.items ≡ out.old.items ++ text_bytes (whole_path path.now)) }
+{
+    let mut text = Vec::new(*out.allocator());
+    push_below(&mut text, path.components())?;
+    if text.is_empty() {
+        text.push(b'/')?;
+    }
+    push_text(out, &text)
+}
