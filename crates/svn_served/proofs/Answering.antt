@@ -5,18 +5,18 @@ use Rattle.svn_wire.specs.declared.token.Token.{Token}
 use Rattle.svn_served.specs.declared.commands.Answered.TheVariants.{Done, At, Wants}
 use Rattle.svn_served.specs.declared.connection.Phase.{Phase}
 use Rattle.svn_served.specs.declared.connection.Phase.TheVariants as phases
-use Rattle.svn_served.specs.declared.fault.Refused.{Refused}
-use Rattle.svn_served.specs.declared.fault.Refused.TheVariants as refused
+use Rattle.svn_replies.specs.declared.fault.Refused.{Refused}
+use Rattle.svn_replies.specs.declared.fault.Refused.TheVariants as refused
 use Rattle.svn_served.specs.declared.reporting.Reporting.{Reporting}
-use Rattle.svn_served.specs.declared.served.Served.{Served}
-use Rattle.svn_served.specs.declared.session.Session.{Session}
+use Rattle.svn_replies.specs.declared.served.Served.{Served}
+use Rattle.svn_replies.specs.declared.session.Session.{Session}
 use Rattle.svn_served.specs.declared.wanted.Driving.{Driving}
 use Rattle.svn_served.specs.declared.wanted.Wanted.{Wanted}
-use Rattle.svn_served.specs.Answers.{no_mechanism}
+use Rattle.svn_replies.specs.Answers.{no_mechanism}
 use Rattle.svn_served.specs.AskedFields.{Asked, asked_by}
 use Rattle.svn_served.specs.Asking.{IsWantedBy, is_malformed, Follows, AnswersBy}
 use Rattle.svn_served.specs.Connection.{Asks, AnswersOf, Answers}
-use Rattle.svn_served.specs.Refusals.{Reason, Gives, reasons, IsTold}
+use Rattle.svn_replies.specs.Refusals.{Reason, Gives, reasons, IsTold}
 use Rattle.svn_served.specs.Reporting.{begun}
 use Rattle.svn_served.specs.Wanting.{driving_of, wanted_of}
 

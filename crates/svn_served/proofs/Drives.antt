@@ -21,7 +21,7 @@ use Rattle.svn_wire_calls.specs.Entries.{AreWritten}
 use Rattle.svn_wire_calls.specs.Laws.{Writes, CallsAreWritten}
 use Rattle.svn_served.specs.declared.driving.Driven.{Driven}
 use Rattle.svn_served.specs.declared.notes.Notes.{Notes}
-use Rattle.svn_served.specs.Answers.{failure}
+use Rattle.svn_replies.specs.Answers.{failure}
 use Rattle.svn_served.specs.ClientCalls.{client_call, client_calls, PassesOn, Skips}
 use Rattle.svn_served.specs.Drives.{Drive, noted_drive, input, calls_of, client_name, AreSent, LeavesWritten, TellsEnd, IsStopped, IsNone, IsDrive}
 use Rattle.svn_served.specs.Told.{Tells}

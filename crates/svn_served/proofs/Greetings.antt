@@ -4,13 +4,13 @@ use Rattle.svn_wire.specs.declared.token.Token.{Token}
 use Rattle.svn_wire.specs.Answers.{failure_of}
 use Rattle.svn_served.specs.declared.connection.Phase.{Phase}
 use Rattle.svn_served.specs.declared.connection.Phase.TheVariants as phases
-use Rattle.svn_served.specs.declared.fault.Refused.{Refused}
-use Rattle.svn_served.specs.declared.fault.Refused.TheVariants as refused
-use Rattle.svn_served.specs.declared.served.Served.{Served}
-use Rattle.svn_served.specs.declared.session.Session.{Session}
-use Rattle.svn_served.specs.Answers.{success, failure}
+use Rattle.svn_replies.specs.declared.fault.Refused.{Refused}
+use Rattle.svn_replies.specs.declared.fault.Refused.TheVariants as refused
+use Rattle.svn_replies.specs.declared.served.Served.{Served}
+use Rattle.svn_replies.specs.declared.session.Session.{Session}
+use Rattle.svn_replies.specs.Answers.{success, failure}
 use Rattle.svn_served.specs.Connection.{mechanisms, is_admitted, admission, GreetsBy, LetsInBy, sent_back, FailedBy, TookBy}
-use Rattle.svn_served.specs.Refusals.{IsTold}
+use Rattle.svn_replies.specs.Refusals.{IsTold}
 
 -- one of two facts, by a test
 pub chosen : (b : Bool) (P Q : Type 0) → b ≡ true → P → MatchBool b P Q

@@ -1,9 +1,9 @@
 -- What is read step by step, and what a step that fails makes of it.
 use Rattle.std.proofs.Common.{◌≡◌, Result, Ok, refl}
-use Rattle.svn_served.specs.declared.fault.Refused.{Refused}
-use Rattle.svn_served.specs.declared.fault.Refused.TheVariants as refused
+use Rattle.svn_replies.specs.declared.fault.Refused.{Refused}
+use Rattle.svn_replies.specs.declared.fault.Refused.TheVariants as refused
 use Rattle.svn_served.specs.declared.reporting.Reporting.{Reporting}
-use Rattle.svn_served.specs.Refusals.{Reason, Fails, Gives, ◌>>=◌}
+use Rattle.svn_replies.specs.Refusals.{Reason, Fails, Gives, ◌>>=◌}
 use Rattle.svn_served.specs.Reporting.{Becomes}
 
 -- a step that fails

@@ -8,15 +8,15 @@ use Rattle.svn_served.specs.declared.connection.Phase.{Phase}
 use Rattle.svn_served.specs.declared.connection.Phase.TheVariants as phases
 use Rattle.svn_served.specs.declared.driving.Driven.{Driven}
 use Rattle.svn_served.specs.declared.driving.Driven.TheVariants.{Failed}
-use Rattle.svn_served.specs.declared.fault.Refused.{Refused}
-use Rattle.svn_served.specs.declared.fault.Refused.TheVariants as refused
+use Rattle.svn_replies.specs.declared.fault.Refused.{Refused}
+use Rattle.svn_replies.specs.declared.fault.Refused.TheVariants as refused
 use Rattle.svn_served.specs.declared.reporting.Reporting.{Reporting}
-use Rattle.svn_served.specs.declared.served.Served.{Served}
-use Rattle.svn_served.specs.declared.session.Session.{Session}
+use Rattle.svn_replies.specs.declared.served.Served.{Served}
+use Rattle.svn_replies.specs.declared.session.Session.{Session}
 use Rattle.svn_served.specs.declared.wanted.Wanted.{Wanted}
-use Rattle.svn_served.specs.Answers.{success, failure, no_mechanism}
+use Rattle.svn_replies.specs.Answers.{success, failure, no_mechanism}
 use Rattle.svn_served.specs.Drives.{wanted_drive, IsDrive}
-use Rattle.svn_served.specs.Refusals.{Reason, malformed, as_read, Fails, Gives, IsTold}
+use Rattle.svn_replies.specs.Refusals.{Reason, malformed, as_read, Fails, Gives, IsTold}
 use Rattle.svn_served.specs.Reports.{step, reported, after_drive, Ends, ReportsBy, IsReportAnswer}
 use Rattle.svn_served.specs.Connection.{Runs, is_last_named, is_inner_named, is_last, AreInner, step_by, steps, ReportsAreDriven}
 use Rattle.svn_served.proofs.KnownBytes.{appends_both}

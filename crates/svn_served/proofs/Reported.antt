@@ -3,13 +3,13 @@ use Rattle.std.proofs.Common.{◌≡◌, true, false, true≢false, is_some, [],
 use Rattle.svn_repo.specs.History.{History}
 use Rattle.svn_report.specs.Reports.{ReportView}
 use Rattle.svn_report.specs.declared.entry.ReportEntry.TheVariants.{SetPath}
-use Rattle.svn_served.specs.declared.fault.Refused.{Refused}
-use Rattle.svn_served.specs.declared.fault.Refused.TheVariants as refused
+use Rattle.svn_replies.specs.declared.fault.Refused.{Refused}
+use Rattle.svn_replies.specs.declared.fault.Refused.TheVariants as refused
 use Rattle.svn_served.specs.declared.reporting.Reporting.{Reporting}
 use Rattle.svn_served.specs.declared.wanted.Entry.{Entry}
 use Rattle.svn_served.specs.declared.wanted.Wanted.{Wanted}
 use Rattle.svn_served.specs.Drives.{tested}
-use Rattle.svn_served.specs.Refusals.{Reason, as_read, Fails, ◌>>=◌}
+use Rattle.svn_replies.specs.Refusals.{Reason, as_read, Fails, ◌>>=◌}
 use Rattle.svn_served.specs.Reporting.{added, begun_by}
 use Rattle.svn_served.specs.Reporting.{finished}
 use Rattle.svn_served.specs.Reports.{reported}

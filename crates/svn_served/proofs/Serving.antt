@@ -9,7 +9,7 @@ use Rattle.svn_served.specs.declared.connection.Phase.{Phase}
 use Rattle.svn_served.specs.declared.connection.Phase.TheVariants.{Greeted, Over}
 use Rattle.svn_served.specs.declared.opening.TheConstants.{GREETING}
 use Rattle.svn_served.specs.declared.exchange.TheConstants.{CLIENT_LIMITS}
-use Rattle.svn_served.specs.declared.served.Served.{Served}
+use Rattle.svn_replies.specs.declared.served.Served.{Served}
 use Rattle.svn_served.specs.Connection.{Takes, Runs}
 use Rattle.svn_served.specs.Serving.{heard, Comes, IsDone, Reads, DoneUnless, Goes, AreTaken, IsServed}
 use Rattle.svn_served.proofs.KnownBytes.{consumes_none, consumes_both, appends_none, appends_both, keeps_same}

@@ -7,18 +7,18 @@ use Rattle.svn_repo.specs.History.{look}
 use Rattle.svn_wire.specs.declared.token.Token.{Token}
 use Rattle.svn_served.specs.declared.commands.Answered.{Answered}
 use Rattle.svn_served.specs.declared.commands.Answered.TheVariants.{Done, At, Wants}
-use Rattle.svn_served.specs.declared.fault.Refused.{Refused}
-use Rattle.svn_served.specs.declared.fault.Refused.TheVariants as refused
+use Rattle.svn_replies.specs.declared.fault.Refused.{Refused}
+use Rattle.svn_replies.specs.declared.fault.Refused.TheVariants as refused
 use Rattle.svn_served.specs.declared.reporting.Reporting.{Reporting}
-use Rattle.svn_served.specs.declared.served.Served.{Served}
-use Rattle.svn_served.specs.declared.session.Session.{Session}
+use Rattle.svn_replies.specs.declared.served.Served.{Served}
+use Rattle.svn_replies.specs.declared.session.Session.{Session}
 use Rattle.svn_served.specs.declared.wanted.Asked.{Asked as Held}
 use Rattle.svn_served.specs.declared.wanted.Driving.{Driving}
 use Rattle.svn_served.specs.declared.wanted.Wanted.{Wanted}
-use Rattle.svn_served.specs.Answers.{no_mechanism}
+use Rattle.svn_replies.specs.Answers.{no_mechanism}
 use Rattle.svn_served.specs.AskedFields.{Asked, asked_by}
-use Rattle.svn_served.specs.Named.{named_rev}
-use Rattle.svn_served.specs.Refusals.{Gives}
+use Rattle.svn_replies.specs.Named.{named_rev}
+use Rattle.svn_replies.specs.Refusals.{Gives}
 use Rattle.svn_served.specs.Reporting.{begun}
 use Rattle.svn_served.specs.Wanting.{wanted_of}
 

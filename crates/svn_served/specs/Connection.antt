@@ -11,15 +11,15 @@ use Rattle.svn_wire.specs.Fields.{◌>>=◌, command_of, list_field, number_fiel
 use Rattle.svn_wire.specs.Writing.{text_bytes}
 use Rattle.svn_served.specs.declared.connection.Phase.{Phase}
 use Rattle.svn_served.specs.declared.connection.Phase.TheVariants as phases
-use Rattle.svn_served.specs.declared.fault.Refused.{Refused}
+use Rattle.svn_replies.specs.declared.fault.Refused.{Refused}
 use Rattle.svn_served.specs.declared.reporting.Reporting.{Reporting}
-use Rattle.svn_served.specs.declared.served.Served.{Served}
-use Rattle.svn_served.specs.declared.session.Session.{Session}
+use Rattle.svn_replies.specs.declared.served.Served.{Served}
+use Rattle.svn_replies.specs.declared.session.Session.{Session}
 use Rattle.svn_served.specs.declared.wanted.Driving.{Driving}
-use Rattle.svn_served.specs.Answers.{success, failure, no_mechanism}
+use Rattle.svn_replies.specs.Answers.{success, failure, no_mechanism}
 use Rattle.svn_served.specs.AskedFields.{Asked, asked_by}
 use Rattle.svn_served.specs.Asking.{IsFree}
-use Rattle.svn_served.specs.Refusals.{Reason, as_read, Gives, reasons}
+use Rattle.svn_replies.specs.Refusals.{Reason, as_read, Gives, reasons}
 use Rattle.svn_served.specs.Reporting.{begun}
 use Rattle.svn_served.specs.Wanting.{driving_of, wanted_of}
 use Rattle.svn_served.specs.Reports.{step, reported, Ends, Reports}

@@ -21,13 +21,13 @@ use Rattle.svn_repo.specs.History.{History}
 use Rattle.svn_wire_calls.specs.Entries.{AreWritten}
 use Rattle.svn_served.specs.declared.driving.Driven.{Driven}
 use Rattle.svn_served.specs.declared.driving.Driven.TheVariants.{Whole, Failed}
-use Rattle.svn_served.specs.declared.served.Served.{Served}
+use Rattle.svn_replies.specs.declared.served.Served.{Served}
 use Rattle.svn_served.specs.declared.notes.Notes.{Notes}
 use Rattle.svn_served.specs.declared.wanted.Entry.{Entry}
 use Rattle.svn_served.specs.declared.wanted.Wanted.{Wanted}
-use Rattle.svn_served.specs.Answers.{failure}
+use Rattle.svn_replies.specs.Answers.{failure}
 use Rattle.svn_served.specs.ClientCalls.{client_calls}
-use Rattle.svn_served.specs.Refusals.{Reason, fails}
+use Rattle.svn_replies.specs.Refusals.{Reason, fails}
 use Rattle.svn_served.specs.Told.{Tells}
 
 -- what a drive is made from, and of it what a client is sent

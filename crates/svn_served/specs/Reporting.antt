@@ -14,15 +14,15 @@ use Rattle.svn_report.specs.declared.reporter_fault.ReporterFault.TheVariants as
 use Rattle.svn_report.specs.Reports.{ReportView, reporter_fault, with_entry}
 use Rattle.svn_wire.specs.declared.token.Token.{Token}
 use Rattle.svn_wire.specs.Fields.{set_path_of, text_field}
-use Rattle.svn_served.specs.declared.fault.Refused.{Refused}
-use Rattle.svn_served.specs.declared.fault.Refused.TheVariants as refused
+use Rattle.svn_replies.specs.declared.fault.Refused.{Refused}
+use Rattle.svn_replies.specs.declared.fault.Refused.TheVariants as refused
 use Rattle.svn_served.specs.declared.reporting.Reporting.{Reporting}
-use Rattle.svn_served.specs.declared.session.Session.{Session}
+use Rattle.svn_replies.specs.declared.session.Session.{Session}
 use Rattle.svn_served.specs.declared.wanted.Entry.{Entry}
 use Rattle.svn_served.specs.declared.wanted.Wanted.{Wanted}
 use Rattle.svn_served.specs.CommandFields.{link_fields}
-use Rattle.svn_served.specs.Named.{latest, path_named, url_named}
-use Rattle.svn_served.specs.Refusals.{Reason, fails, malformed, needed, refusal_code, Fails, ◌>>=◌}
+use Rattle.svn_replies.specs.Named.{latest, path_named, url_named}
+use Rattle.svn_replies.specs.Refusals.{Reason, fails, malformed, needed, refusal_code, Fails, ◌>>=◌}
 
 -- what is left is what reading gives, unless memory ran out
 abbrev pub Becomes : Result (Unit {0}) Refused → Reporting → Result Reporting Reason → Type 0

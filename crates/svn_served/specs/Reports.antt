@@ -10,14 +10,14 @@ use Rattle.svn_served.specs.declared.connection.Phase.{Phase}
 use Rattle.svn_served.specs.declared.connection.Phase.TheVariants.{Ready, Reporting as Reported, Driven as Took}
 use Rattle.svn_served.specs.declared.driving.Driven.{Driven}
 use Rattle.svn_served.specs.declared.driving.Driven.TheVariants.{Whole, Failed}
-use Rattle.svn_served.specs.declared.fault.Refused.{Refused}
+use Rattle.svn_replies.specs.declared.fault.Refused.{Refused}
 use Rattle.svn_served.specs.declared.reporting.Reporting.{Reporting}
-use Rattle.svn_served.specs.declared.served.Served.{Served}
-use Rattle.svn_served.specs.declared.session.Session.{Session}
+use Rattle.svn_replies.specs.declared.served.Served.{Served}
+use Rattle.svn_replies.specs.declared.session.Session.{Session}
 use Rattle.svn_served.specs.declared.wanted.Wanted.{Wanted}
-use Rattle.svn_served.specs.Answers.{success, failure, no_mechanism}
+use Rattle.svn_replies.specs.Answers.{success, failure, no_mechanism}
 use Rattle.svn_served.specs.Drives.{wanted_drive, tested, IsDrive}
-use Rattle.svn_served.specs.Refusals.{Reason, fails, malformed, as_read, Gives, ◌>>=◌}
+use Rattle.svn_replies.specs.Refusals.{Reason, fails, malformed, as_read, Gives, ◌>>=◌}
 use Rattle.svn_served.specs.Reporting.{report_step, finished}
 
 -- what is reported, if it can be served

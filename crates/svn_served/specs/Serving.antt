@@ -10,7 +10,7 @@ use Rattle.svn_served.specs.declared.connection.Phase.{Phase}
 use Rattle.svn_served.specs.declared.connection.Phase.TheVariants.{Greeted, Over}
 use Rattle.svn_served.specs.declared.opening.TheConstants.{GREETING}
 use Rattle.svn_served.specs.declared.exchange.TheConstants.{CLIENT_LIMITS}
-use Rattle.svn_served.specs.declared.served.Served.{Served}
+use Rattle.svn_replies.specs.declared.served.Served.{Served}
 use Rattle.svn_served.specs.Connection.{Runs}
 
 abbrev pub heard : List (List Token) → List Heard

@@ -9,16 +9,16 @@ use Rattle.svn_repo.specs.History.{look}
 use Rattle.svn_repo.specs.Readings.{is_directory_at}
 use Rattle.svn_editor.specs.declared.mode.Mode.{Mode}
 use Rattle.svn_editor.specs.declared.mode.Mode.TheVariants as modes
-use Rattle.svn_served.specs.declared.served.Served.{Served}
-use Rattle.svn_served.specs.declared.session.Session.{Session}
+use Rattle.svn_replies.specs.declared.served.Served.{Served}
+use Rattle.svn_replies.specs.declared.session.Session.{Session}
 use Rattle.svn_served.specs.declared.wanted.Driving.{Driving}
 use Rattle.svn_served.specs.declared.wanted.Driving.TheVariants as drivings
 use Rattle.svn_served.specs.declared.wanted.Entry.{Entry}
 use Rattle.svn_served.specs.declared.wanted.Wanted.{Wanted}
 use Rattle.svn_served.specs.AskedFields.{Asked}
-use Rattle.svn_served.specs.Named.{named_rev, path_named, url_named}
+use Rattle.svn_replies.specs.Named.{named_rev, path_named, url_named}
 use Rattle.svn_served.specs.Reporting.{short_enough}
-use Rattle.svn_served.specs.Refusals.{Reason, fails, ◌>>=◌}
+use Rattle.svn_replies.specs.Refusals.{Reason, fails, ◌>>=◌}
 
 abbrev pub driving_of : List ℕ → Option Driving
 driving_of name =

@@ -4,20 +4,18 @@ ghost use Rattle.std.specs.Io.KnownBytes.{Appends};
 ghost use Rattle.svn_served.specs.declared.connection.Phase.TheVariants.{Over};
 ghost use Rattle.svn_wire.specs.Fields.{command_of};
 ghost use Rattle.svn_served.specs.Asking.{Follows};
-ghost use Rattle.svn_served.specs.Refusals.{IsTold};
+ghost use Rattle.svn_replies.specs.Refusals.{IsTold};
 ghost use Rattle.svn_served.specs.Connection.{sent_back, Answers, TookBy, TakesPlain, Takes};
 
 use crate::commands::{Answered, answer_command};
-use crate::fault::{Refused, ServeFault};
+use crate::fault::ServeFault;
 use crate::opening::{greet, let_in};
 use crate::reporting::Reporting;
 use crate::reports::take_report;
-use crate::served::Served;
-use crate::session::{Session, View};
 use crate::wanted::Wanted;
-use crate::writing::{push_done, push_failure};
 use std::alloc::{AllocError, Global};
 use std::io::Write;
+use svn_replies::{Refused, Served, Session, View, push_done, push_failure};
 use svn_types::RelPath;
 use svn_wire::{Token, command, push_number, push_text, read_failure};
 
@@ -117,7 +115,7 @@ fn answer(
 }
 
 // A client's failure as it is sent back.
-#[tactic(auto, unfolding(crate::specs::Answers::failure))]
+#[tactic(auto, unfolding(svn_replies::specs::Answers::failure))]
 fn push_back(out: &mut Vec<u8>, code: u64, message: &[u8]) -> Result<(), AllocError>
     ensures { OnOk result (out.new.items ≡ out.old.items ++ sent_back code message.now) }
 {

@@ -2,20 +2,19 @@
 ghost use Rattle.std.specs.Prelude.{◌≡◌, List, ℕ, Some, IfOk, OnOk};
 ghost use Rattle.std.specs.Option.{option_copied};
 ghost use Rattle.std.specs.Io.KnownBytes.{Appends};
-ghost use Rattle.svn_served.specs.Answers.{failure};
-ghost use Rattle.svn_served.specs.Refusals.{Fails, Gives};
+ghost use Rattle.svn_replies.specs.Answers.{failure};
+ghost use Rattle.svn_replies.specs.Refusals.{Fails, Gives};
 ghost use Rattle.svn_served.specs.Drives.{noted_drive, wanted_drive, client_name, tested, tested_by, target_code, LeavesWritten, TellsEnd, IsDrive};
 
 use crate::client_view::ClientView;
-use crate::fault::{Failure, Refused, ServeFault, code};
+use crate::fault::ServeFault;
 use crate::notes::Notes;
-use crate::served::Served;
 use crate::wanted::{Entry, Wanted};
-use crate::writing::push_failure;
 use std::alloc::{AllocError, Global};
 use std::io::Write;
 use svn_drive::{DriveEnd, DriveFault, ReportFault, check_report, drive_request};
 use svn_editor::EditFault;
+use svn_replies::{Failure, Refused, Served, code, push_failure};
 use svn_report::Report;
 use svn_types::Name;
 use svn_wire_calls::{WireEditor, calls_are_written};

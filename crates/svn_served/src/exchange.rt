@@ -8,10 +8,10 @@ ghost use Rattle.svn_served.specs.Serving.{Goes, Reads, IsDone, DoneUnless, IsSe
 use crate::connection::{Phase, take, write_out};
 use crate::fault::ServeFault;
 use crate::opening::GREETING;
-use crate::served::Served;
 use std::alloc::Global;
 use std::io::{Error, ErrorKind, Read, Write};
 use std::mem;
+use svn_replies::Served;
 use svn_wire::{ItemStream, Limits, Stop, Token, WireFault};
 
 /// How many bytes are read at a time.

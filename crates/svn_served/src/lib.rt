@@ -1,7 +1,6 @@
 //! The server's side of a connection of Subversion's protocol (ra_svn), read only: what is written to a client for each item that it sends.
 //!
-//! [`Served`] is what is served: a repository that was loaded from a dump, what the dump says of copies, and the properties of its revisions. It never
-//! changes. [`serve`] answers one client over a reader and a writer, to the end of what it sends.
+//! [`serve`] answers one client over a reader and a writer, to the end of what it sends, of what is served (`svn_replies`).
 //!
 //! ```
 //! let served = Served { repo, index, revisions, uuid, root, options };
@@ -10,30 +9,24 @@
 //!
 //! A connection goes through phases: the client answers the greeting and names a URL, it names a mechanism, and then sends commands. After `update`,
 //! `switch`, `status` and `diff` it reports what it has, entry by entry; the drive of that report, by `svn_drive`, is written as it is made, and the client
-//! says how it took it. A report's first refusal is told at its end. Whatever fails but the connection itself is told to the client, by a code of
-//! `svn_error_codes.h`.
+//! says how it took it. A report's first refusal is told at its end. The other commands are answered at once, by `svn_replies`. Whatever fails but the
+//! connection itself is told to the client, by a code of `svn_error_codes.h`.
 //!
 //! Where one entry of the client's directory is wanted (`update PATH`), the report says that the directory is as the target has it, and of the entry what the
 //! client said. So the calls are about the entry alone. In a switch of an entry the directory is that of the new path, and the entry's name there becomes the
 //! client's in each path that is written (`ClientView`). Depths are left to the client.
 //!
-//! Files: `exchange` reads items and writes answers, `connection` has the phases, `opening` how a client is let in, `reports` what comes of a report.
-//! `commands` has the commands by their names; `fields` takes their fields apart, `session` what paths, URLs and revisions name. `answers` is about one node
-//! or one revision, `log`, `changes`, `locations` and `history` about where nodes were, and what revisions changed. `wanted` is what a drive is asked for,
-//! `reporting` the report, `driving` the drive, `client_view` its calls as a client is sent them; `follow` is where a path of the client leads in the target,
-//! and `notes` what is said of the node there. `writing` writes what answers are made of, `fault` says why a command fails, `laws` has the law of reports.
-//!
-//! To add a command: its name in `is_known`, an arm of `answer_plain`, its fields, and a definition of its answer in `specs/Commands.antt`.
+//! Files: `exchange` reads items and writes answers, `connection` has the phases, `opening` how a client is let in, `commands` which commands a report
+//! follows, `reports` what comes of one. `wanted` is what a drive is asked for, `reporting` the report, with the `fields` of its commands, `driving` the
+//! drive, `client_view` its calls as a client is sent them; `follow` is where a path of the client leads in the target, and `notes` what is said of the node
+//! there. `fault` says why a connection ends, `laws` has the law of reports.
 //!
 //! Promises: a connection writes the greeting, and then what comes of the client's items, one after another, to the end of its input ([`serve`]: `IsServed`
 //! of `specs/Serving.antt`, by `Runs` of `specs/Connection.antt`). What is written after a report is the image of the drive of that report, each node with
 //! its last change (`Tells` of `specs/Told.antt`); or that of its first calls, and a failure where a stop was asked for; or why there is no drive
-//! ([`reports_are_driven`]). Of the commands of which no report follows, the answers to `get-latest-rev`, `check-path`, `rev-prop` and `rev-proplist` are
-//! those of `specs/Commands.antt`; what the others answer isn't stated, but for the parts in `specs/Answers.antt` and `specs/NodeBytes.antt`.
+//! ([`reports_are_driven`]). What is written for a command that is answered at once isn't stated here: `svn_replies` says what it states of that.
 #![tactic(auto)]
 
-mod answers;
-mod changes;
 mod client_view;
 mod commands;
 mod connection;
@@ -42,20 +35,13 @@ mod exchange;
 mod fault;
 mod fields;
 mod follow;
-mod history;
 mod laws;
-mod locations;
-mod log;
 mod notes;
 mod opening;
 mod reporting;
 mod reports;
-mod served;
-mod session;
 mod wanted;
-mod writing;
 
 pub use exchange::{CLIENT_LIMITS, serve};
 pub use fault::ServeFault;
 pub use laws::reports_are_driven;
-pub use served::{Revisions, Served};

@@ -4,10 +4,10 @@ ghost use Rattle.std.specs.Option.{option_copied};
 ghost use Rattle.svn_served.specs.Told.{says_nothing, reported_path};
 
 use crate::follow::Following;
-use crate::served::Served;
 use crate::wanted::Entry;
 use std::alloc::{AllocError, Global};
 use svn_drive::Request;
+use svn_replies::Served;
 use svn_report::Report;
 use svn_types::{Name, RelPath};
 use svn_wire_calls::{Entered, Teller};

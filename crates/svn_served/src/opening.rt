@@ -4,10 +4,10 @@ ghost use Rattle.svn_served.specs.Connection.{url_of, mechanism_of, is_admitted,
 
 use crate::connection::{Phase, push_refused};
 use crate::fault::ServeFault;
-use crate::served::Served;
-use crate::session::Session;
-use crate::writing::{push_close, push_done, push_end, push_open, push_success};
 use std::alloc::{AllocError, Global};
+use svn_replies::{
+    Served, Session, push_close, push_done, push_end, push_open, push_success,
+};
 use svn_wire::{Token, list_field, number_field, push_text, text_field, word_field, word_list};
 
 /// What is served, and what it can do.
@@ -79,7 +79,7 @@ fn is_admitted(mechanism: &[u8]) -> bool
 }
 
 // That a client is let in, and which repository it is.
-#[tactic(auto, unfolding(crate::specs::Answers::success))]
+#[tactic(auto, unfolding(svn_replies::specs::Answers::success))]
 fn push_admission(served: &Served, session: &Session, out: &mut Vec<u8>) -> Result<(), AllocError>
     ensures { OnOk result (out.new.items ≡ out.old.items ++ admission served.now session.now) }
 {

@@ -1,14 +1,13 @@
 //! Reports of what a client has.
 ghost use Rattle.std.specs.Prelude.{◌≡◌, [], IfOk};
 ghost use Rattle.svn_report.specs.declared.entry.ReportEntry.TheVariants.{SetPath};
-ghost use Rattle.svn_served.specs.Refusals.{Gives};
+ghost use Rattle.svn_replies.specs.Refusals.{Gives};
 ghost use Rattle.svn_served.specs.Reporting.{added, begun, own_entry, settled, taken, set_path, link_path, delete_path, finished, Becomes, IsRefusal, IsAccepted};
 
-use crate::fault::{Refused, code};
 use crate::fields::link_fields;
-use crate::session::{View, failed, read_path};
 use crate::wanted::{Entry, Wanted};
 use std::alloc::{AllocError, Global};
+use svn_replies::{Refused, View, code, failed, read_path};
 use svn_report::{Report, ReportEntry, Reporter, ReporterFault};
 use svn_types::{RelPath, Rev};
 use svn_wire::{Token, set_path_fields, text_field};

@@ -1,20 +1,18 @@
 //! What comes of the commands of a report.
 ghost use Rattle.std.specs.Prelude.{◌≡◌, List, ℕ, IfOk};
 ghost use Rattle.std.specs.Io.KnownBytes.{Appends};
-ghost use Rattle.svn_served.specs.Refusals.{as_read, Gives};
+ghost use Rattle.svn_replies.specs.Refusals.{as_read, Gives};
 ghost use Rattle.svn_served.specs.Reporting.{report_step, Becomes};
 ghost use Rattle.svn_served.specs.Reports.{reported, step, after_drive, IsReportAnswer, Reports};
 
 use crate::connection::{Phase, push_refused, write_out};
 use crate::driving::{Driven, test_report, write_drive};
-use crate::fault::{Refused, ServeFault};
+use crate::fault::ServeFault;
 use crate::reporting::Reporting;
-use crate::served::Served;
-use crate::session::{Session, View};
 use crate::wanted::Wanted;
-use crate::writing::{push_done, push_no_mechanism};
 use std::alloc::Global;
 use std::io::Write;
+use svn_replies::{Refused, Served, Session, View, push_done, push_no_mechanism};
 use svn_report::Report;
 use svn_wire::{Token, command};
 

@@ -6,15 +6,14 @@ ghost use Rattle.svn_repo.specs.History.{look};
 ghost use Rattle.svn_wire.specs.Fields.{bool_field, optional_number};
 ghost use Rattle.svn_served.specs.AskedFields.{last_rev, last_texts, update_asked, switch_asked, status_asked, diff_asked, asked_by};
 ghost use Rattle.svn_served.specs.Asking.{asked_as, IsWanted, IsWantedBy};
-ghost use Rattle.svn_served.specs.Refusals.{Gives};
+ghost use Rattle.svn_replies.specs.Refusals.{Gives};
 ghost use Rattle.svn_served.specs.Wanting.{driving_of, entry_name, updates, switches, entry_wanted, url_wanted, part_wanted, deep, wanted_with};
 
-use crate::fault::{Refused, code};
 use crate::notes::path_below;
-use crate::session::{View, failed, read_path};
 use std::alloc::AllocError;
 use svn_drive::Request;
 use svn_editor::Mode;
+use svn_replies::{Refused, View, code, failed, read_path};
 use svn_types::{Name, RelPath, Rev};
 use svn_wire::{Token, bool_field, optional_number, text_field};
 
@@ -175,202 +174,200 @@ fn fields_of(driving: Driving, fields: &[Token]) -> Option<Asked<'_>>
     }
 }
 
-impl View<'_> {
-    // What is wanted, by its parts.
-    fn wanted_with(
-        &self,
-        target: Rev,
-        mode: Mode,
-        root: RelPath,
-        entry: Option<Entry>,
-        with_texts: bool,
-    ) -> Wanted
-        ensures { result ≡ wanted_with self.now.served.now target mode root entry with_texts }
-    {
-        Wanted {
-            request: Request {
-                target,
-                mode,
-                options: self.served.options,
-            },
-            root,
-            entry,
-            with_texts,
-        }
+// What is wanted, by its parts.
+fn wanted_with(
+    view: View<'_>,
+    target: Rev,
+    mode: Mode,
+    root: RelPath,
+    entry: Option<Entry>,
+    with_texts: bool,
+) -> Wanted
+    ensures { result ≡ wanted_with view.entry.served.now target mode root entry with_texts }
+{
+    Wanted {
+        request: Request {
+            target,
+            mode,
+            options: view.served.options,
+        },
+        root,
+        entry,
+        with_texts,
     }
+}
 
-    // A name that the root of the target doesn't have, if one is found.
-    fn free_name(&self, target: Rev) -> Result<Option<Name>, AllocError>
-        ensures { IfOk result (λ free. IfSome free (λ name. look self.now.served.now.repo target (name ∷ []) ≡ None)) }
-    {
-        let mut text = String::new(self.alloc);
-        for _ in 0..255 {
-            text.push('x')?;
-            let Ok(name) = Name::parse(self.alloc, text.as_str()) else {
-                return Err(AllocError);
-            };
-            let path = path_below(self.alloc, &name, &RelPath::root(self.alloc))?;
-            if self.served.repo.lookup(target, &path).is_none() {
-                return Ok(Some(name));
-            }
-        }
-        Ok(None)
-    }
-
-    // The one name of a path.
-    fn only_name(&self, path: &RelPath) -> Result<Name, Refused>
-        ensures { Gives (λ name. name) result (entry_name path.now) }
-    {
-        match path.components() {
-            [name] => Ok(name.clone()?),
-            _ => Err(failed(
-                code::BAD_PATH,
-                format!(in self.alloc; "a target that isn't one name")?,
-            )),
-        }
-    }
-
-    // An update of one entry. Where its directory is gone in the target, it is said of a name that the root doesn't have: so the entry is deleted.
-    fn update_entry(
-        &self,
-        target: Rev,
-        name: Name,
-        at: RelPath,
-        with_texts: bool,
-    ) -> Result<Wanted, Refused>
-        ensures { (free : Option (List ℕ)) × IfSome free (λ other. look self.now.served.now.repo target (other ∷ []) ≡ None) × Gives (λ wanted. wanted) result (updates self.now.served.now self.now.session.now target free name at with_texts) }
-    {
-        if self.served.has_directory(target, &self.session.at) {
-            let root = self.session.at.clone()?;
-            let reported = name.clone()?;
-            let entry = Entry { name, reported, at };
-            return Ok(self.wanted_with(target, Mode::Update, root, Some(entry), with_texts));
-        }
-        match self.free_name(target)? {
-            Some(reported) => {
-                let root = RelPath::root(self.alloc);
-                let entry = Entry { name, reported, at };
-                Ok(self.wanted_with(target, Mode::Update, root, Some(entry), with_texts))
-            }
-            None => Err(failed(
-                code::UNSUPPORTED,
-                format!(in self.alloc; "a directory of all names isn't served")?,
-            )),
-        }
-    }
-
-    // A switch of one entry: the client's directory is as the one that the new path is in.
-    fn switch_entry(
-        &self,
-        target: Rev,
-        name: Name,
-        at: RelPath,
-        to: &RelPath,
-        with_texts: bool,
-    ) -> Result<Wanted, Refused>
-        ensures { Gives (λ wanted. wanted) result (switches self.now.served.now target name at to.now (last_name to.now) with_texts) }
-    {
-        let (Some(above), Some(last)) = (to.parent(self.alloc)?, to.last_name()) else {
-            return Err(failed(
-                code::UNSUPPORTED,
-                format!(in self.alloc;
-                    "a switch of an entry to the root of the repository isn't served"
-                )?,
-            ));
+// A name that the root of the target doesn't have, if one is found.
+fn free_name(view: View<'_>, target: Rev) -> Result<Option<Name>, AllocError>
+    ensures { IfOk result (λ free. IfSome free (λ name. look view.entry.served.now.repo target (name ∷ []) ≡ None)) }
+{
+    let mut text = String::new(view.alloc);
+    for _ in 0..255 {
+        text.push('x')?;
+        let Ok(name) = Name::parse(view.alloc, text.as_str()) else {
+            return Err(AllocError);
         };
-        if !self.served.has_directory(target, &above) {
-            return Err(failed(
-                code::BAD_PATH,
-                format!(in self.alloc; "Target path '/{to}' does not exist")?,
-            ));
+        let path = path_below(view.alloc, &name, &RelPath::root(view.alloc))?;
+        if view.served.repo.lookup(target, &path).is_none() {
+            return Ok(Some(name));
         }
-        let reported = last.clone()?;
+    }
+    Ok(None)
+}
+
+// The one name of a path.
+fn only_name(view: View<'_>, path: &RelPath) -> Result<Name, Refused>
+    ensures { Gives (λ name. name) result (entry_name path.now) }
+{
+    match path.components() {
+        [name] => Ok(name.clone()?),
+        _ => Err(failed(
+            code::BAD_PATH,
+            format!(in view.alloc; "a target that isn't one name")?,
+        )),
+    }
+}
+
+// An update of one entry. Where its directory is gone in the target, it is said of a name that the root doesn't have: so the entry is deleted.
+fn update_entry(
+    view: View<'_>,
+    target: Rev,
+    name: Name,
+    at: RelPath,
+    with_texts: bool,
+) -> Result<Wanted, Refused>
+    ensures { (free : Option (List ℕ)) × IfSome free (λ other. look view.entry.served.now.repo target (other ∷ []) ≡ None) × Gives (λ wanted. wanted) result (updates view.entry.served.now view.entry.session.now target free name at with_texts) }
+{
+    if view.served.has_directory(target, &view.session.at) {
+        let root = view.session.at.clone()?;
+        let reported = name.clone()?;
         let entry = Entry { name, reported, at };
-        let mode = Mode::SwitchTo(above.clone()?);
-        Ok(self.wanted_with(target, mode, above, Some(entry), with_texts))
+        return Ok(wanted_with(view, target, Mode::Update, root, Some(entry), with_texts));
     }
-
-    // One entry of the client's directory.
-    fn entry_wanted(
-        &self,
-        target: Rev,
-        name: Name,
-        to: Option<&RelPath>,
-        with_texts: bool,
-    ) -> Result<Wanted, Refused>
-        ensures { (free : Option (List ℕ)) × IfSome free (λ other. look self.now.served.now.repo target (other ∷ []) ≡ None) × Gives (λ wanted. wanted) result (entry_wanted self.now.served.now self.now.session.now target free name (option_copied to.entry) with_texts) }
-    {
-        let at = self.session.at.join(self.alloc, &name)?;
-        match to {
-            Some(to) => self.switch_entry(target, name, at, to, with_texts),
-            None => self.update_entry(target, name, at, with_texts),
+    match free_name(view, target)? {
+        Some(reported) => {
+            let root = RelPath::root(view.alloc);
+            let entry = Entry { name, reported, at };
+            Ok(wanted_with(view, target, Mode::Update, root, Some(entry), with_texts))
         }
+        None => Err(failed(
+            code::UNSUPPORTED,
+            format!(in view.alloc; "a directory of all names isn't served")?,
+        )),
     }
+}
 
-    // The path of the URL that is named, where one is.
-    fn url_wanted(&self, url: Option<&[u8]>) -> Result<Option<RelPath>, Refused>
-        ensures { Gives (λ to. to) result (url_wanted self.now.session.now (option_copied url.entry)) }
-    {
-        match url {
-            Some(url) => Ok(Some(self.session.path_of_url(self.alloc, url)?)),
-            None => Ok(None),
-        }
+// A switch of one entry: the client's directory is as the one that the new path is in.
+fn switch_entry(
+    view: View<'_>,
+    target: Rev,
+    name: Name,
+    at: RelPath,
+    to: &RelPath,
+    with_texts: bool,
+) -> Result<Wanted, Refused>
+    ensures { Gives (λ wanted. wanted) result (switches view.entry.served.now target name at to.now (last_name to.now) with_texts) }
+{
+    let (Some(above), Some(last)) = (to.parent(view.alloc)?, to.last_name()) else {
+        return Err(failed(
+            code::UNSUPPORTED,
+            format!(in view.alloc;
+                "a switch of an entry to the root of the repository isn't served"
+            )?,
+        ));
+    };
+    if !view.served.has_directory(target, &above) {
+        return Err(failed(
+            code::BAD_PATH,
+            format!(in view.alloc; "Target path '/{to}' does not exist")?,
+        ));
     }
+    let reported = last.clone()?;
+    let entry = Entry { name, reported, at };
+    let mode = Mode::SwitchTo(above.clone()?);
+    Ok(wanted_with(view, target, mode, above, Some(entry), with_texts))
+}
 
-    // The whole of the client's directory, or one entry of it.
-    fn part_wanted(
-        &self,
-        target: Rev,
-        entry: &[u8],
-        to: Option<RelPath>,
-        with_texts: bool,
-    ) -> Result<Wanted, Refused>
-        ensures { (free : Option (List ℕ)) × IfSome free (λ other. look self.now.served.now.repo target (other ∷ []) ≡ None) × Gives (λ wanted. wanted) result (part_wanted self.now.served.now self.now.session.now target free entry.now to with_texts) }
-    {
-        if entry.is_empty() {
-            let mode = match to {
-                Some(to) => Mode::SwitchTo(to),
-                None => Mode::Update,
-            };
-            let root = self.session.at.clone()?;
-            return Ok(self.wanted_with(target, mode, root, None, with_texts));
-        }
-        let path = read_path(self.alloc, entry)?;
-        let name = self.only_name(&path)?;
-        self.entry_wanted(target, name, to.as_ref(), with_texts)
+// One entry of the client's directory.
+fn entry_wanted(
+    view: View<'_>,
+    target: Rev,
+    name: Name,
+    to: Option<&RelPath>,
+    with_texts: bool,
+) -> Result<Wanted, Refused>
+    ensures { (free : Option (List ℕ)) × IfSome free (λ other. look view.entry.served.now.repo target (other ∷ []) ≡ None) × Gives (λ wanted. wanted) result (entry_wanted view.entry.served.now view.entry.session.now target free name (option_copied to.entry) with_texts) }
+{
+    let at = view.session.at.join(view.alloc, &name)?;
+    match to {
+        Some(to) => switch_entry(view, target, name, at, to, with_texts),
+        None => update_entry(view, target, name, at, with_texts),
     }
+}
 
-    // A depth without directories isn't served.
-    fn deep(&self, recurse: bool) -> Result<(), Refused>
-        ensures { Gives (λ done. done) result (deep recurse) }
-    {
-        if recurse {
-            Ok(())
-        } else {
-            Err(failed(
-                code::UNSUPPORTED,
-                format!(in self.alloc; "a depth without directories isn't served")?,
-            ))
-        }
+// The path of the URL that is named, where one is.
+fn url_wanted(view: View<'_>, url: Option<&[u8]>) -> Result<Option<RelPath>, Refused>
+    ensures { Gives (λ to. to) result (url_wanted view.entry.session.now (option_copied url.entry)) }
+{
+    match url {
+        Some(url) => Ok(Some(view.session.path_of_url(view.alloc, url)?)),
+        None => Ok(None),
     }
+}
 
-    #[tactic(auto, unfolding(crate::specs::Wanting::wanted_of))]
-    fn wanted_by(&self, asked: &Asked<'_>) -> Result<Wanted, Refused>
-        ensures { IsWanted self.now.served.now self.now.session.now (asked_as asked.now) result }
-    {
-        let target = self.rev(asked.rev)?;
-        self.deep(asked.recurse)?;
-        let to = self.url_wanted(asked.url)?;
-        self.part_wanted(target, asked.entry, to, asked.with_texts)
-    }
-
-    /// What a command asks for.
-    pub(crate) fn wanted(&self, driving: Driving, fields: &[Token]) -> Result<Wanted, Refused>
-        ensures { IsWantedBy self.now.served.now self.now.session.now (asked_by driving fields.now) result }
-    {
-        let Some(asked) = fields_of(driving, fields) else {
-            return Err(Refused::BadFields);
+// The whole of the client's directory, or one entry of it.
+fn part_wanted(
+    view: View<'_>,
+    target: Rev,
+    entry: &[u8],
+    to: Option<RelPath>,
+    with_texts: bool,
+) -> Result<Wanted, Refused>
+    ensures { (free : Option (List ℕ)) × IfSome free (λ other. look view.entry.served.now.repo target (other ∷ []) ≡ None) × Gives (λ wanted. wanted) result (part_wanted view.entry.served.now view.entry.session.now target free entry.now to with_texts) }
+{
+    if entry.is_empty() {
+        let mode = match to {
+            Some(to) => Mode::SwitchTo(to),
+            None => Mode::Update,
         };
-        self.wanted_by(&asked)
+        let root = view.session.at.clone()?;
+        return Ok(wanted_with(view, target, mode, root, None, with_texts));
     }
+    let path = read_path(view.alloc, entry)?;
+    let name = only_name(view, &path)?;
+    entry_wanted(view, target, name, to.as_ref(), with_texts)
+}
+
+// A depth without directories isn't served.
+fn deep(view: View<'_>, recurse: bool) -> Result<(), Refused>
+    ensures { Gives (λ done. done) result (deep recurse) }
+{
+    if recurse {
+        Ok(())
+    } else {
+        Err(failed(
+            code::UNSUPPORTED,
+            format!(in view.alloc; "a depth without directories isn't served")?,
+        ))
+    }
+}
+
+#[tactic(auto, unfolding(crate::specs::Wanting::wanted_of))]
+fn wanted_by(view: View<'_>, asked: &Asked<'_>) -> Result<Wanted, Refused>
+    ensures { IsWanted view.entry.served.now view.entry.session.now (asked_as asked.now) result }
+{
+    let target = view.rev(asked.rev)?;
+    deep(view, asked.recurse)?;
+    let to = url_wanted(view, asked.url)?;
+    part_wanted(view, target, asked.entry, to, asked.with_texts)
+}
+
+/// What a command asks for.
+pub(crate) fn wanted(view: View<'_>, driving: Driving, fields: &[Token]) -> Result<Wanted, Refused>
+    ensures { IsWantedBy view.entry.served.now view.entry.session.now (asked_by driving fields.now) result }
+{
+    let Some(asked) = fields_of(driving, fields) else {
+        return Err(Refused::BadFields);
+    };
+    wanted_by(view, &asked)
 }

@@ -11,7 +11,7 @@ use svn_drive::DriveOptions;
 use svn_dump::{DumpIndex, Limits, Reader, Texts};
 use svn_history::Loader;
 use svn_repo::Repo;
-use svn_served::Served;
+use svn_replies::Served;
 use svn_types::Text;
 
 /// A dump's history.

@@ -4,7 +4,7 @@ use crate::fault::Fault;
 use std::alloc::{AllocError, Global};
 use std::io::{BufRead, BufReader, Read};
 use std::str;
-use svn_served::Revisions;
+use svn_replies::Revisions;
 use svn_types::{PathFault, PropName, Props, Rev, Text, split_once};
 
 /// The most bytes of a revision's properties that are kept.

@@ -8,8 +8,9 @@ use svn_drive::DriveOptions;
 use svn_dump::{Limits, Reader, Texts};
 use svn_history::Loader;
 use svn_repo::Repo;
-pub(crate) use svn_served::Served;
-use svn_served::{Revisions, ServeFault, serve};
+use svn_replies::Revisions;
+pub(crate) use svn_replies::Served;
+use svn_served::{ServeFault, serve};
 use svn_types::{PropName, Props, Text};
 
 /// The revisions' dates and messages; all but the first are of one author.

@@ -1,8 +1,8 @@
 //! Where a client is in the repository, and what its paths, URLs and revisions name.
 
 ghost use Rattle.std.specs.Prelude.{◌≡◌, Some, IfOk};
-ghost use Rattle.svn_served.specs.Refusals.{Gives, refusal_code};
-ghost use Rattle.svn_served.specs.Named.{after_slash, path_named, path_in, url_named, known_rev, named_rev, node_in, node_of_kind};
+ghost use Rattle.svn_replies.specs.Refusals.{Gives, refusal_code};
+ghost use Rattle.svn_replies.specs.Named.{after_slash, path_named, path_in, url_named, known_rev, named_rev, node_in, node_of_kind};
 
 use crate::fault::{Failure, Refused, code};
 use crate::served::Served;
@@ -13,21 +13,26 @@ use svn_wire::{UrlFault, read_url};
 
 /// What a client named: the URL of the repository, and the path of the directory that it is in.
 #[derive(Debug, Drop)]
-pub(crate) struct Session {
-    pub(crate) url: Text,
-    pub(crate) at: RelPath,
+pub struct Session {
+    /// The URL.
+    pub url: Text,
+    /// The path.
+    pub at: RelPath,
 }
 
 /// What is served to a client.
 #[derive(Clone, Copy)]
-pub(crate) struct View<'a> {
-    pub(crate) alloc: Global,
-    pub(crate) served: &'a Served,
-    pub(crate) session: &'a Session,
+pub struct View<'a> {
+    /// Where memory comes from.
+    pub alloc: Global,
+    /// What is served.
+    pub served: &'a Served,
+    /// Where the client is.
+    pub session: &'a Session,
 }
 
 /// A failure of this code.
-pub(crate) fn failed(code: u64, message: String) -> Refused
+pub fn failed(code: u64, message: String) -> Refused
     ensures { refusal_code result ≡ Some code }
 {
     Refused::Failed(Failure::new(code, message))
@@ -44,7 +49,7 @@ fn after_slash(bytes: &[u8]) -> &[u8]
 }
 
 /// A path of a command, which may have a slash before its first name.
-pub(crate) fn read_path(alloc: Global, bytes: &[u8]) -> Result<RelPath, Refused>
+pub fn read_path(alloc: Global, bytes: &[u8]) -> Result<RelPath, Refused>
     ensures { Gives (λ p. p) result (path_named bytes.now) }
 {
     match RelPath::from_bytes(alloc, after_slash(bytes)) {
@@ -100,7 +105,7 @@ fn path_of(alloc: Global, root: &[u8], url: &[u8]) -> Result<RelPath, Refused>
 
 impl Session {
     /// The session of a client that names this URL.
-    pub(crate) fn open(alloc: Global, served: &Served, url: &[u8]) -> Result<Session, Refused> {
+    pub fn open(alloc: Global, served: &Served, url: &[u8]) -> Result<Session, Refused> {
         let Some(host) = host_of(url) else {
             return Err(elsewhere(alloc)?);
         };
@@ -114,7 +119,7 @@ impl Session {
     }
 
     /// The path of a URL in the repository.
-    pub(crate) fn path_of_url(&self, alloc: Global, url: &[u8]) -> Result<RelPath, Refused>
+    pub fn path_of_url(&self, alloc: Global, url: &[u8]) -> Result<RelPath, Refused>
         ensures { Gives (λ p. p) result (url_named self.now.url url.now) }
     {
         path_of(alloc, self.url.as_slice(), url)
@@ -158,7 +163,7 @@ impl View<'_> {
     }
 
     /// The revision that is named, or the last.
-    pub(crate) fn rev(&self, number: Option<u64>) -> Result<Rev, Refused>
+    pub fn rev(&self, number: Option<u64>) -> Result<Rev, Refused>
         ensures { Gives (λ r. r) result (named_rev self.now.served.now.repo number) }
     {
         match number {

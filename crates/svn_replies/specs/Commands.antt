@@ -11,12 +11,12 @@ use Rattle.svn_wire.specs.declared.token.Token.{Token}
 use Rattle.svn_wire.specs.Fields.{number_field}
 use Rattle.svn_wire.specs.Writing.{number_bytes}
 use Rattle.svn_wire_calls.specs.Calls.{optional}
-use Rattle.svn_served.specs.CommandFields.{path_and_rev, prop_fields}
-use Rattle.svn_served.specs.Answers.{success, kind_bytes}
-use Rattle.svn_served.specs.NodeBytes.{pairs_bytes}
-use Rattle.svn_served.specs.Refusals.{Reason, needed, ◌>>=◌}
-use Rattle.svn_served.specs.Named.{latest, named_rev, known_rev, path_in}
-use Rattle.svn_served.specs.Values.{Pairs, value_at}
+use Rattle.svn_replies.specs.CommandFields.{path_and_rev, prop_fields}
+use Rattle.svn_replies.specs.Answers.{success, kind_bytes}
+use Rattle.svn_replies.specs.NodeBytes.{pairs_bytes}
+use Rattle.svn_replies.specs.Refusals.{Reason, needed, ◌>>=◌}
+use Rattle.svn_replies.specs.Named.{latest, named_rev, known_rev, path_in}
+use Rattle.svn_replies.specs.Values.{Pairs, value_at}
 
 abbrev pub latest_answer : History → Result (List ℕ) Reason
 latest_answer h = Ok (success (number_bytes (latest h)))

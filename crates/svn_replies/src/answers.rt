@@ -2,10 +2,10 @@
 ghost use Rattle.std.specs.Prelude.{◌≡◌, ◌++◌, Option, option_map, OnOk};
 ghost use Rattle.svn_repo.specs.History.{node_at};
 ghost use Rattle.svn_wire_calls.specs.declared.entered.Entered.{Entered};
-ghost use Rattle.svn_served.specs.Refusals.{Answers};
-ghost use Rattle.svn_served.specs.Told.{IsChangeOrNone};
-ghost use Rattle.svn_served.specs.NodeBytes.{date_bytes, change_bytes, change_pairs, entry_bytes, pairs_bytes, props_bytes};
-ghost use Rattle.svn_served.specs.Commands.{latest_answer, kind_answer, rev_prop_answer, rev_props_answer};
+ghost use Rattle.svn_replies.specs.Refusals.{Answers};
+ghost use Rattle.svn_replies.specs.LastChanges.{IsChangeOrNone};
+ghost use Rattle.svn_replies.specs.NodeBytes.{date_bytes, change_bytes, change_pairs, entry_bytes, pairs_bytes, props_bytes};
+ghost use Rattle.svn_replies.specs.Commands.{latest_answer, kind_answer, rev_prop_answer, rev_props_answer};
 
 use crate::fault::{Refused, code};
 use crate::fields::{node_fields, path_and_rev, prop_fields};

@@ -1,6 +1,6 @@
 use Rattle.std.proofs.Common.{◌≡◌, ◌++◌, ◌∷◌, take}
 use Rattle.std.specs.List.{flat_map}
-use Rattle.svn_served.proofs.writing.push_below.Given as goal
+use Rattle.svn_replies.proofs.writing.push_below.Given as goal
 
 -- the names so far are written
 abbrev pub invariant-loop-name : goal.invariant-loop-name

@@ -5,9 +5,9 @@
 use Rattle.std.specs.Prelude.{◌≡◌, ℕ, List, ◌++◌, Option, Some, None, Result, Ok, Err}
 use Rattle.svn_types.specs.declared.fault.PathFault.{PathFault}
 use Rattle.svn_types.specs.declared.fault.PathFault.TheVariants as paths
-use Rattle.svn_served.specs.declared.fault.Refused.{Refused}
-use Rattle.svn_served.specs.declared.fault.Refused.TheVariants as refused
-use Rattle.svn_served.specs.Answers.{failure as failure_bytes}
+use Rattle.svn_replies.specs.declared.fault.Refused.{Refused}
+use Rattle.svn_replies.specs.declared.fault.Refused.TheVariants as refused
+use Rattle.svn_replies.specs.Answers.{failure as failure_bytes}
 
 pub data Reason : Type 0 where
   fails : ℕ → Reason

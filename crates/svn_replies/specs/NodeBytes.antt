@@ -9,9 +9,9 @@ use Rattle.svn_repo.specs.Readings.{text_of}
 use Rattle.svn_wire.specs.Writing.{number_bytes}
 use Rattle.svn_wire_calls.specs.declared.entered.Entered.{Entered}
 use Rattle.svn_wire_calls.specs.Calls.{optional}
-use Rattle.svn_served.specs.Answers.{bool_bytes, kind_bytes, pair_bytes, known_pair}
-use Rattle.svn_served.specs.Nodes.{has_props}
-use Rattle.svn_served.specs.Values.{Pairs}
+use Rattle.svn_replies.specs.Answers.{bool_bytes, kind_bytes, pair_bytes, known_pair}
+use Rattle.svn_replies.specs.Nodes.{has_props}
+use Rattle.svn_replies.specs.Values.{Pairs}
 
 -- a list of a date; the client reads no entry without one
 abbrev pub date_bytes : Option (List ℕ) → List ℕ

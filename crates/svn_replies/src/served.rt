@@ -5,9 +5,9 @@ ghost use Rattle.svn_repo.specs.History.{look};
 ghost use Rattle.svn_repo.specs.Readings.{is_directory_at, text_of};
 ghost use Rattle.svn_history.specs.Made.{RootsRise};
 ghost use Rattle.svn_history.specs.Changed.{IsLastChange};
-ghost use Rattle.svn_served.specs.Values.{value_in, value_at};
-ghost use Rattle.svn_served.specs.Nodes.{line_at, has_props};
-ghost use Rattle.svn_served.specs.Told.{IsChangeOrNone};
+ghost use Rattle.svn_replies.specs.Values.{value_in, value_at};
+ghost use Rattle.svn_replies.specs.Nodes.{line_at, has_props};
+ghost use Rattle.svn_replies.specs.LastChanges.{IsChangeOrNone};
 
 use std::alloc::{AllocError, Global};
 use std::marker::Model;
@@ -130,7 +130,7 @@ impl Served {
     }
 
     /// The last change of the node at a path; None where nothing is there.
-    pub(crate) fn entered(
+    pub fn entered(
         &self,
         alloc: Global,
         rev: Rev,
@@ -145,7 +145,7 @@ impl Served {
     }
 
     /// Whether a directory is at a path.
-    pub(crate) fn has_directory(&self, rev: Rev, path: &RelPath) -> bool
+    pub fn has_directory(&self, rev: Rev, path: &RelPath) -> bool
         ensures { result ≡ is_directory_at self.now.repo (look self.now.repo rev path.now) }
     {
         match self.repo.lookup(rev, path) {

@@ -14,7 +14,7 @@ use Rattle.svn_repo.specs.History.{History, look, node_at}
 use Rattle.svn_wire.specs.declared.urls.UrlFault.{UrlFault}
 use Rattle.svn_wire.specs.declared.urls.UrlFault.TheVariants as urls
 use Rattle.svn_wire.specs.Urls.{path_of_url}
-use Rattle.svn_served.specs.Refusals.{Reason, fails, ◌>>=◌}
+use Rattle.svn_replies.specs.Refusals.{Reason, fails, ◌>>=◌}
 
 abbrev pub latest : History → ℕ
 latest h = length h.roots - 1

@@ -6,7 +6,7 @@ ghost use Rattle.std.specs.Option.{option_copied};
 ghost use Rattle.svn_types.specs.PathTexts.{path_text};
 ghost use Rattle.svn_wire.specs.Writing.{number_bytes, text_bytes};
 ghost use Rattle.svn_wire_calls.specs.Calls.{optional};
-ghost use Rattle.svn_served.specs.Answers.{success, failure, no_mechanism, bool_bytes, kind_bytes, pair_bytes, known_pair, whole_path};
+ghost use Rattle.svn_replies.specs.Answers.{success, failure, no_mechanism, bool_bytes, kind_bytes, pair_bytes, known_pair, whole_path};
 
 use crate::fault::Failure;
 use itoa::Buffer;
@@ -14,34 +14,36 @@ use std::alloc::AllocError;
 use svn_types::{Kind, Name, Props, RelPath, Rev, Text};
 use svn_wire::{push_number, push_text, push_word};
 
-pub(crate) fn push_open(out: &mut Vec<u8>) -> Result<(), AllocError>
+/// The beginning of a list.
+pub fn push_open(out: &mut Vec<u8>) -> Result<(), AllocError>
     ensures { OnOk result (out.new.items ≡ out.old.items ++ codes "( ") }
 {
     out.extend_from_slice(b"( ")
 }
 
-pub(crate) fn push_close(out: &mut Vec<u8>) -> Result<(), AllocError>
+/// Its end.
+pub fn push_close(out: &mut Vec<u8>) -> Result<(), AllocError>
     ensures { OnOk result (out.new.items ≡ out.old.items ++ codes ") ") }
 {
     out.extend_from_slice(b") ")
 }
 
 /// The beginning of the answer of a command that succeeds.
-pub(crate) fn push_success(out: &mut Vec<u8>) -> Result<(), AllocError>
+pub fn push_success(out: &mut Vec<u8>) -> Result<(), AllocError>
     ensures { OnOk result (out.new.items ≡ out.old.items ++ codes "( success ( ") }
 {
     out.extend_from_slice(b"( success ( ")
 }
 
 /// The end of an answer.
-pub(crate) fn push_end(out: &mut Vec<u8>) -> Result<(), AllocError>
+pub fn push_end(out: &mut Vec<u8>) -> Result<(), AllocError>
     ensures { OnOk result (out.new.items ≡ out.old.items ++ codes ") ) ") }
 {
     out.extend_from_slice(b") ) ")
 }
 
 /// The answer without results.
-pub(crate) fn push_done(out: &mut Vec<u8>) -> Result<(), AllocError>
+pub fn push_done(out: &mut Vec<u8>) -> Result<(), AllocError>
     ensures { OnOk result (out.new.items ≡ out.old.items ++ success []) }
 {
     push_success(out)?;
@@ -49,14 +51,14 @@ pub(crate) fn push_done(out: &mut Vec<u8>) -> Result<(), AllocError>
 }
 
 /// That no mechanism is asked for before a command is answered.
-pub(crate) fn push_no_mechanism(out: &mut Vec<u8>) -> Result<(), AllocError>
+pub fn push_no_mechanism(out: &mut Vec<u8>) -> Result<(), AllocError>
     ensures { OnOk result (out.new.items ≡ out.old.items ++ no_mechanism) }
 {
     out.extend_from_slice(b"( success ( ( ) 0: ) ) ")
 }
 
 /// Why a command fails.
-pub(crate) fn push_failure(out: &mut Vec<u8>, told: &Failure) -> Result<(), AllocError>
+pub fn push_failure(out: &mut Vec<u8>, told: &Failure) -> Result<(), AllocError>
     ensures { OnOk result (out.new.items ≡ out.old.items ++ failure told.now.code told.now.message) }
 {
     out.extend_from_slice(b"( failure ( ( ")?;
