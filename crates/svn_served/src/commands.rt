@@ -4,7 +4,7 @@ ghost use Rattle.svn_served.specs.AskedFields.{asked_by};
 ghost use Rattle.svn_served.specs.Asking.{is_malformed, Asks, AnswersBy, IsReply};
 ghost use Rattle.svn_served.specs.Wanting.{driving_of};
 
-use crate::wanted::{Driving, Wanted, driving_of, wanted};
+use crate::wanted::{Driving, Wanted, driving_of, read_wanted};
 use svn_replies::{Refused, Replied, View, push_no_mechanism, reply};
 use svn_types::RelPath;
 use svn_wire::Token;
@@ -37,7 +37,7 @@ fn drive(
     ensures { Asks view.entry.served.now view.entry.session.now (asked_by driving fields.now) result out.old.items out.new.items }
 {
     push_no_mechanism(out)?;
-    let wanted = wanted(view, driving, fields);
+    let wanted = read_wanted(view, driving, fields);
     if is_malformed(&wanted) {
         return Err(Refused::BadFields);
     }

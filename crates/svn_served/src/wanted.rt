@@ -363,7 +363,7 @@ fn wanted_by(view: View<'_>, asked: &Asked<'_>) -> Result<Wanted, Refused>
 }
 
 /// What a command asks for.
-pub(crate) fn wanted(view: View<'_>, driving: Driving, fields: &[Token]) -> Result<Wanted, Refused>
+pub(crate) fn read_wanted(view: View<'_>, driving: Driving, fields: &[Token]) -> Result<Wanted, Refused>
     ensures { IsWantedBy view.entry.served.now view.entry.session.now (asked_by driving fields.now) result }
 {
     let Some(asked) = fields_of(driving, fields) else {
