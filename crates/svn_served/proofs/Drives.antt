@@ -2,6 +2,7 @@
 use Rattle.std.proofs.Common.{◌≡◌, ℕ, zero, suc, Bool, true, false, List, [], ◌∷◌, take, length, Option, Some, None, Result, Ok, Err, ◌++◌, inl, inr, refl, sym, ap, ◌∙◌, subst, MatchBool}
 use Rattle.std.specs.Option.{option_copied}
 use Rattle.std.specs.Io.KnownBytes.{Appends}
+use Rattle.std.proofs.KnownBytes.{Appends-trans}
 use Rattle.svn_types.specs.Names.{Path}
 use Rattle.svn_editor.specs.declared.call.Call.{Call}
 use Rattle.svn_editor.specs.declared.call.Call.TheVariants.{AbortEdit}
@@ -25,7 +26,6 @@ use Rattle.svn_replies.specs.Answers.{failure}
 use Rattle.svn_served.specs.ClientCalls.{client_call, client_calls, PassesOn, Skips}
 use Rattle.svn_served.specs.Drives.{Drive, noted_drive, input, calls_of, client_name, AreSent, LeavesWritten, TellsEnd, IsStopped, IsNone, IsDrive}
 use Rattle.svn_served.specs.Told.{Tells}
-use Rattle.svn_served.proofs.KnownBytes.{appends_both}
 use Rattle.svn_served.proofs.ClientCalls.{Views, leads_on, abort_passed}
 
 -- ---- a stop that was asked for
@@ -159,7 +159,7 @@ ends_drive d (Ok (Cancelled k)) driven a b c left told =
     let stop : IsStopped d bytes = record { made = k; calls = left.0; front = left.1; message = message; written = refl } in (
       bytes,
       subst (λ (x : Driven). IsDrive d x bytes) (sym told.0) (inl stop),
-      appends_both a b c left.0 (failure 200015 message) left.2 told.1.1,
+      Appends-trans a b c left.0 (failure 200015 message) left.2 told.1.1,
     )
 ends_drive d (Err fault) driven a b c left told =
     let code = told.1.0 in

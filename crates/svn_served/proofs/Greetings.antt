@@ -1,7 +1,8 @@
 -- How a client is let in, and its word on a drive.
-use Rattle.std.proofs.Common.{◌≡◌, ◌≢◌, inl, inr, ℕ, Bool, true, false, true≢false, List, [], ◌++◌, append-nil, codes, bytes_eq, Option, Some, refl, sym, subst, MatchBool}
+use Rattle.std.proofs.Common.{◌≡◌, ◌≢◌, inl, inr, ℕ, Bool, true, false, true≢false, List, [], ◌++◌, append-nil, append_assoc, codes, bytes_eq, Option, Some, refl, sym, subst, MatchBool}
 use Rattle.svn_wire.specs.declared.token.Token.{Token}
 use Rattle.svn_wire.specs.Answers.{failure_of}
+use Rattle.svn_wire.specs.Writing.{text_bytes}
 use Rattle.svn_served.specs.declared.connection.Phase.{Phase}
 use Rattle.svn_served.specs.declared.connection.Phase.TheVariants as phases
 use Rattle.svn_replies.specs.declared.fault.Refused.{Refused}
@@ -20,6 +21,30 @@ chosen false P Q is p = absurd (true≢false (sym is))
 pub other : (b : Bool) (P Q : Type 0) → b ≡ false → Q → MatchBool b P Q
 other true P Q is q = absurd (true≢false is)
 other false P Q is q = q
+
+-- ---- what is written part by part
+
+three_parts : (out a b c : List ℕ) → ((out ++ a) ++ b) ++ c ≡ out ++ (a ++ (b ++ c))
+three_parts out a b c = simp append_assoc
+
+all_parts : (out a b c d e f g : List ℕ)
+    → ((((((out ++ a) ++ b) ++ c) ++ d) ++ e) ++ f) ++ g ≡ out ++ (a ++ (b ++ ((c ++ (d ++ (e ++ f))) ++ g)))
+all_parts out a b c d e f g = simp append_assoc
+
+pub offered : (uuid text out a b : List ℕ) → text ≡ uuid → a ≡ out ++ codes "( success ( ( ANONYMOUS EXTERNAL ) " → b ≡ a ++ text_bytes text
+    → b ++ codes ") ) " ≡ out ++ mechanisms uuid
+offered uuid text out a b same p q =
+    rw (q, p, same) (three_parts out (codes "( success ( ( ANONYMOUS EXTERNAL ) ") (text_bytes uuid) (codes ") ) "))
+
+pub admitted : (s : Served) (session : Session) (uuid url out a b c d e f : List ℕ) → uuid ≡ s.uuid → url ≡ session.url → a ≡ out ++ success []
+    → b ≡ a ++ codes "( success ( " → c ≡ b ++ text_bytes uuid → d ≡ c ++ text_bytes url → e ≡ d ++ codes "( " → f ≡ e ++ codes ") "
+    → f ++ codes ") ) " ≡ out ++ admission s session
+unfolding success
+admitted s session uuid url out a b c d e f is_uuid is_url p q r t u v =
+    rw (v, u, t, r, q, p, is_uuid, is_url)
+    (all_parts out (success []) (codes "( success ( ") (text_bytes s.uuid) (text_bytes session.url) (codes "( ") (codes ") ") (codes ") ) "))
+
+-- ---- who is let in
 
 module _ (s : Served) (c : Option (ℕ × List ℕ)) (version : ℕ) (url : List ℕ) (is : Some (version, url) ≡ c) where
   abbrev pub Greets : Phase → List ℕ → List ℕ → Type 0

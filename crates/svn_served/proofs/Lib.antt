@@ -1,5 +1,3 @@
--- bytes that are known
-pub mod KnownBytes
 -- the calls of a drive as a client is sent them
 pub mod ClientCalls
 -- what is written of a drive
@@ -12,6 +10,8 @@ pub mod Serving
 pub mod Answering
 -- what is read step by step
 pub mod Refusing
+-- what a drive is asked for, as it is read
+pub mod Wantings
 -- a report as it is read
 pub mod Reported
 -- how a client is let in

@@ -1,6 +1,7 @@
 -- What is written after a report.
 use Rattle.std.proofs.Common.{◌≡◌, ℕ, Bool, true, false, true≢false, ◌&&◌, not, List, [], ◌∷◌, ◌++◌, append-nil, codes, bytes_eq, Option, Some, None, Result, Ok, Err, refl, sym, ap, ◌∙◌, subst, MatchBool}
 use Rattle.std.specs.Io.KnownBytes.{Appends}
+use Rattle.std.proofs.KnownBytes.{Appends-trans}
 use Rattle.svn_report.specs.Reports.{ReportView}
 use Rattle.svn_wire.specs.declared.token.Token.{Token}
 use Rattle.svn_wire.specs.Fields.{command_of}
@@ -19,7 +20,6 @@ use Rattle.svn_served.specs.Drives.{wanted_drive, IsDrive}
 use Rattle.svn_replies.specs.Refusals.{Reason, malformed, as_read, Fails, Gives, IsTold}
 use Rattle.svn_served.specs.Reports.{step, reported, after_drive, Ends, ReportsBy, IsReportAnswer}
 use Rattle.svn_served.specs.Connection.{Runs, is_last_named, is_inner_named, is_last, AreInner, step_by, steps, ReportsAreDriven}
-use Rattle.svn_served.proofs.KnownBytes.{appends_both}
 use Rattle.svn_served.proofs.Greetings.{chosen, other}
 
 -- neither of two tests holds
@@ -92,7 +92,7 @@ pub answers_drive : (s : Served) (read : Result (Wanted × ReportView) Reason) (
     → (bytes : List ℕ) × IsReportAnswer s read driven bytes × Appends a c bytes
 answers_drive s read x driven sent a b c is drive first more =
     subst (λ (r : Result (Wanted × ReportView) Reason). (bytes : List ℕ) × IsReportAnswer s r driven bytes × Appends a c bytes) (sym is)
-    (no_mechanism ++ sent, (sent, drive, refl), appends_both a b c no_mechanism sent first more)
+    (no_mechanism ++ sent, (sent, drive, refl), Appends-trans a b c no_mechanism sent first more)
 
 pub answers_failure : (s : Served) (read : Result (Wanted × ReportView) Reason) (e : Refused) (out new : List ℕ) (a c : Option (List ℕ)) → Fails e read
     → out ≡ no_mechanism → IsTold e out new → Appends a c new → (bytes : List ℕ) × IsReportAnswer s read Failed bytes × Appends a c bytes

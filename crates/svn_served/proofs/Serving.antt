@@ -1,6 +1,7 @@
 -- What is written to a client, by the bytes that it sends.
 use Rattle.std.proofs.Common.{◌≡◌, ◌⊎◌, inl, inr, ℕ, Bool, true, false, List, [], ◌∷◌, ◌++◌, append-nil, append_assoc, Option, Some, None, IfSome, Ok, refl, sym, ap, ◌∙◌, subst}
 use Rattle.std.specs.Io.KnownBytes.{Appends, Keeps}
+use Rattle.std.proofs.KnownBytes.{Appends-kept, Appends-nil, Appends-trans, Consumes-nil, Consumes-trans}
 use Rattle.svn_wire.specs.declared.token.Token.{Token}
 use Rattle.svn_wire.specs.Streams.{Waiting, fresh, with_bytes, reads_from, reads_now, IsSameStream, TakesItem}
 use Rattle.svn_wire.specs.Sessions.{Heard, items_of, items_in, LeavesOff}
@@ -12,7 +13,6 @@ use Rattle.svn_served.specs.declared.exchange.TheConstants.{CLIENT_LIMITS}
 use Rattle.svn_replies.specs.declared.served.Served.{Served}
 use Rattle.svn_served.specs.Connection.{Takes, Runs}
 use Rattle.svn_served.specs.Serving.{heard, Comes, IsDone, Reads, DoneUnless, Goes, AreTaken, IsServed}
-use Rattle.svn_served.proofs.KnownBytes.{consumes_none, consumes_both, appends_none, appends_both, keeps_same}
 
 -- ---- items one after another
 
@@ -85,8 +85,8 @@ module _ (s : Served) where
     read = h.read ++ g.read;
     said = h.said ++ g.said;
     comes = comes_both p q r a b c h.read g.read h.said g.said h.comes g.comes;
-    consumed = consumes_both i j k h.read g.read h.consumed g.consumed;
-    written = appends_both x y z h.said g.said h.written g.written;
+    consumed = Consumes-trans i j k h.read g.read h.consumed g.consumed;
+    written = Appends-trans x y z h.said g.said h.written g.written;
   }
 
   pub goes_nowhere : (p : Phase) (a : Waiting) (i x : Option (List ℕ)) → Goes s p a p a i i x x
@@ -94,8 +94,8 @@ module _ (s : Served) where
     read = [];
     said = [];
     comes = stays p a;
-    consumed = consumes_none i;
-    written = appends_none x x (keeps_same x);
+    consumed = Consumes-nil i;
+    written = Appends-nil x;
   }
 
   -- an item was taken, and its bytes were written
@@ -105,7 +105,7 @@ module _ (s : Served) where
     read = [];
     said = bytes;
     comes = comes_item p q a b tokens bytes taken takes;
-    consumed = consumes_none i;
+    consumed = Consumes-nil i;
     written = written;
   }
 
@@ -117,14 +117,14 @@ module _ (s : Served) where
     said = [];
     comes = subst (λ (w : Waiting). Comes s p a p w h.0 []) (sym h.2) (comes_bytes p a m h.0 none);
     consumed = h.1;
-    written = appends_none x y kept;
+    written = Appends-kept x x y [] (Appends-nil x) kept;
   }
   goes_bytes false p a m b i j x y none h kept = record {
     read = [];
     said = [];
     comes = subst (λ (w : Waiting). Comes s p a p w [] []) (sym h.0) (comes_none p a m none);
     consumed = h.1;
-    written = appends_none x y kept;
+    written = Appends-kept x x y [] (Appends-nil x) kept;
   }
 
   -- ---- the end
@@ -175,5 +175,5 @@ module _ (s : Served) where
       runs = h.comes.runs;
       written = refl;
     },
-    appends_both begun greeted output GREETING.now h.said first h.written,
+    Appends-trans begun greeted output GREETING.now h.said first h.written,
   )

@@ -58,8 +58,11 @@ abbrev pub begun_by : Option Entry → Reporting → Result Reporting Reason
 begun_by None state = Ok state
 begun_by (Some entry) state = added state [] (SetPath state.wanted.request.target false)
 
+abbrev pub unbegun : Wanted → Path → Reporting
+unbegun w root = record { wanted = w; reporter = record { root = root; entries = [] }; own = None }
+
 abbrev pub begun : Wanted → Result Reporting Reason
-begun w = begun_by w.entry (record { wanted = w; reporter = record { root = w.root; entries = [] }; own = None })
+begun w = begun_by w.entry (unbegun w w.root)
 
 -- ---- the one entry
 

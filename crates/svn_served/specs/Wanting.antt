@@ -11,6 +11,7 @@ use Rattle.svn_editor.specs.declared.mode.Mode.{Mode}
 use Rattle.svn_editor.specs.declared.mode.Mode.TheVariants as modes
 use Rattle.svn_replies.specs.declared.served.Served.{Served}
 use Rattle.svn_replies.specs.declared.session.Session.{Session}
+use Rattle.svn_served.specs.declared.wanted.Aim.{Aim}
 use Rattle.svn_served.specs.declared.wanted.Driving.{Driving}
 use Rattle.svn_served.specs.declared.wanted.Driving.TheVariants as drivings
 use Rattle.svn_served.specs.declared.wanted.Entry.{Entry}
@@ -40,9 +41,9 @@ entry_name _ = Err (fails 160005)
 
 -- ---- what is wanted
 
-abbrev pub wanted_with : Served → ℕ → Mode → Path → Option Entry → Bool → Wanted
-wanted_with s target mode root entry texts =
-    record { request = record { target = target; mode = mode; options = s.options }; root = root; entry = entry; with_texts = texts }
+abbrev pub wanted_with : Served → Aim → Mode → Path → Option Entry → Wanted
+wanted_with s aim mode root entry =
+    record { request = record { target = aim.target; mode = mode; options = s.options }; root = root; entry = entry; with_texts = aim.with_texts }
 
 -- all of the client's directory
 abbrev pub whole_mode : Option Path → Mode
@@ -50,40 +51,40 @@ whole_mode None = modes.Update
 whole_mode (Some to) = modes.SwitchTo to
 
 -- an update of one entry whose directory is gone in the target: it is said of a name that the root doesn't have, so the entry is deleted
-abbrev pub updates_gone : Served → ℕ → Option (List ℕ) → List ℕ → Path → Bool → Result Wanted Reason
-updates_gone s target None name at texts = Err (fails 200007)
-updates_gone s target (Some reported) name at texts =
-    Ok (wanted_with s target modes.Update [] (Some (record { name = name; reported = reported; at = at })) texts)
+abbrev pub updates_gone : Served → Aim → Option (List ℕ) → List ℕ → Path → Result Wanted Reason
+updates_gone s aim None name at = Err (fails 200007)
+updates_gone s aim (Some reported) name at =
+    Ok (wanted_with s aim modes.Update [] (Some (record { name = name; reported = reported; at = at })))
 
 -- an update of one entry
-abbrev pub updates : Served → Session → ℕ → Option (List ℕ) → List ℕ → Path → Bool → Result Wanted Reason
-updates s session target free name at texts =
-    if is_directory_at s.repo (look s.repo target session.at) then
-    Ok (wanted_with s target modes.Update session.at (Some (record { name = name; reported = name; at = at })) texts)
-    else updates_gone s target free name at texts
+abbrev pub updates : Served → Session → Aim → List ℕ → Path → Result Wanted Reason
+updates s session aim name at =
+    if is_directory_at s.repo (look s.repo aim.target session.at) then
+    Ok (wanted_with s aim modes.Update session.at (Some (record { name = name; reported = name; at = at })))
+    else updates_gone s aim aim.free name at
 
 -- a switch of one entry: the client's directory is as the one that the new path is in
-abbrev pub switches : Served → ℕ → List ℕ → Path → Path → Path → Bool → Result Wanted Reason
-switches s target name at to [] texts = Err (fails 200007)
-switches s target name at to (last ∷ more) texts =
-    if is_directory_at s.repo (look s.repo target (parent to)) then
-    Ok (wanted_with s target (modes.SwitchTo (parent to)) (parent to) (Some (record { name = name; reported = last; at = at })) texts)
+abbrev pub switches : Served → Aim → List ℕ → Path → Path → Path → Result Wanted Reason
+switches s aim name at to [] = Err (fails 200007)
+switches s aim name at to (last ∷ more) =
+    if is_directory_at s.repo (look s.repo aim.target (parent to)) then
+    Ok (wanted_with s aim (modes.SwitchTo (parent to)) (parent to) (Some (record { name = name; reported = last; at = at })))
     else Err (fails 160005)
 
-abbrev pub entry_wanted : Served → Session → ℕ → Option (List ℕ) → List ℕ → Option Path → Bool → Result Wanted Reason
-entry_wanted s session target free name None texts = short_child session.at name >>= λ at. updates s session target free name at texts
-entry_wanted s session target free name (Some to) texts = short_child session.at name >>= λ at. switches s target name at to (last_name to) texts
+abbrev pub entry_wanted : Served → Session → Aim → List ℕ → Option Path → Result Wanted Reason
+entry_wanted s session aim name None = short_child session.at name >>= λ at. updates s session aim name at
+entry_wanted s session aim name (Some to) = short_child session.at name >>= λ at. switches s aim name at to (last_name to)
 
 abbrev pub url_wanted : Session → Option (List ℕ) → Result (Option Path) Reason
 url_wanted session None = Ok None
 url_wanted session (Some url) = url_named session.url url >>= λ path. Ok (Some path)
 
-abbrev pub part_wanted : Served → Session → ℕ → Option (List ℕ) → List ℕ → Option Path → Bool → Result Wanted Reason
-part_wanted s session target free [] to texts = Ok (wanted_with s target (whole_mode to) session.at None texts)
-part_wanted s session target free (b ∷ bytes) to texts = do
+abbrev pub part_wanted : Served → Session → Aim → List ℕ → Option Path → Result Wanted Reason
+part_wanted s session aim [] to = Ok (wanted_with s aim (whole_mode to) session.at None)
+part_wanted s session aim (b ∷ bytes) to = do
   path ← path_named (b ∷ bytes)
   name ← entry_name path
-  entry_wanted s session target free name to texts
+  entry_wanted s session aim name to
 
 -- a depth without directories isn't served
 abbrev pub deep : Bool → Result (Unit {0}) Reason
@@ -95,4 +96,4 @@ wanted_of s session free asked = do
   target ← named_rev s.repo asked.rev
   recursive ← deep asked.recurse
   to ← url_wanted session asked.url
-  part_wanted s session target free asked.entry to asked.with_texts
+  part_wanted s session (record { target = target; free = free; with_texts = asked.with_texts }) asked.entry to

@@ -1,8 +1,8 @@
 //! Reports of what a client has.
-ghost use Rattle.std.specs.Prelude.{◌≡◌, [], IfOk};
+ghost use Rattle.std.specs.Prelude.{◌≡◌, [], false, IfOk};
 ghost use Rattle.svn_report.specs.declared.entry.ReportEntry.TheVariants.{SetPath};
 ghost use Rattle.svn_replies.specs.Refusals.{Gives};
-ghost use Rattle.svn_served.specs.Reporting.{added, begun, own_entry, settled, taken, set_path, link_path, delete_path, finished, Becomes, IsRefusal, IsAccepted};
+ghost use Rattle.svn_served.specs.Reporting.{added, begun, unbegun, own_entry, settled, taken, set_path, link_path, delete_path, finished, Becomes, IsRefusal, IsAccepted};
 
 use crate::fields::link_fields;
 use crate::wanted::{Entry, Wanted};
@@ -69,32 +69,44 @@ impl Reporting {
     pub(crate) fn begin(alloc: Global, wanted: Wanted) -> Result<Reporting, Refused>
         ensures { Gives (λ state. state) result (begun wanted) }
     {
-        let target = wanted.request.target;
-        let has_entry = wanted.entry.is_some();
-        let reporter = Reporter::new_at(alloc, wanted.root.clone()?);
-        let begun = Reporting {
-            wanted,
-            reporter,
-            own: None,
-        };
-        if has_entry {
-            begun.with_root(alloc, target)
+        let root = wanted.root.clone()?;
+        let begun = Reporting::empty(alloc, wanted, root);
+        if begun.wanted.entry.is_some() {
+            begun.with_root(alloc)
         } else {
             Ok(begun)
         }
     }
 
+    // A report without entries.
+    fn empty(alloc: Global, wanted: Wanted, root: RelPath) -> Reporting
+        ensures { result ≡ unbegun wanted root }
+    {
+        Reporting {
+            wanted,
+            reporter: Reporter::new_at(alloc, root),
+            own: None,
+        }
+    }
+
     // The same, and that the client's directory is as the target.
-    fn with_root(self, alloc: Global, target: Rev) -> Result<Reporting, Refused>
-        ensures { Gives (λ state. state) result (added self [] (SetPath target false)) }
+    fn with_root(self, alloc: Global) -> Result<Reporting, Refused>
+        ensures { Gives (λ state. state) result (added self [] (SetPath self.wanted.request.target false)) }
     {
         let mut begun = self;
-        let entry = ReportEntry::SetPath {
-            rev: target,
-            start_empty: false,
-        };
+        let entry = begun.target_entry();
         begun.add(alloc, &RelPath::root(alloc), entry)?;
         Ok(begun)
+    }
+
+    // That a directory is as the target has it.
+    fn target_entry(&self) -> ReportEntry
+        ensures { result ≡ SetPath self.now.wanted.request.target false }
+    {
+        ReportEntry::SetPath {
+            rev: self.wanted.request.target,
+            start_empty: false,
+        }
     }
 
     fn add(&mut self, alloc: Global, path: &RelPath, entry: ReportEntry) -> Result<(), Refused>

@@ -1,5 +1,5 @@
 //! What a drive is asked for: `update`, `switch`, `status` and `diff`.
-ghost use Rattle.std.specs.Prelude.{◌≡◌, ◌∷◌, [], None, Option, List, ℕ, option_map, IfOk, IfSome};
+ghost use Rattle.std.specs.Prelude.{◌≡◌, ◌∷◌, [], None, option_map, IfOk, IfSome};
 ghost use Rattle.std.specs.Option.{option_copied};
 ghost use Rattle.svn_types.specs.Paths.{last_name};
 ghost use Rattle.svn_repo.specs.History.{look};
@@ -7,7 +7,7 @@ ghost use Rattle.svn_wire.specs.Fields.{bool_field, optional_number};
 ghost use Rattle.svn_served.specs.AskedFields.{last_rev, last_texts, update_asked, switch_asked, status_asked, diff_asked, asked_by};
 ghost use Rattle.svn_served.specs.Asking.{asked_as, IsWanted, IsWantedBy};
 ghost use Rattle.svn_replies.specs.Refusals.{Gives};
-ghost use Rattle.svn_served.specs.Wanting.{driving_of, entry_name, updates, switches, entry_wanted, url_wanted, part_wanted, deep, wanted_with};
+ghost use Rattle.svn_served.specs.Wanting.{driving_of, entry_name, updates, updates_gone, switches, entry_wanted, url_wanted, whole_mode, part_wanted, deep, wanted_with};
 
 use crate::notes::path_below;
 use std::alloc::AllocError;
@@ -39,6 +39,15 @@ pub(crate) struct Wanted {
     pub(crate) entry: Option<Entry>,
     /// Whether texts are sent.
     pub(crate) with_texts: bool,
+}
+
+// Where a drive leads, before its paths are read.
+#[derive(Drop)]
+struct Aim {
+    target: Rev,
+    // A name that the root of the target doesn't have, if one was found.
+    free: Option<Name>,
+    with_texts: bool,
 }
 
 // The fields that all four commands have.
@@ -177,23 +186,22 @@ fn fields_of(driving: Driving, fields: &[Token]) -> Option<Asked<'_>>
 // What is wanted, by its parts.
 fn wanted_with(
     view: View<'_>,
-    target: Rev,
+    aim: &Aim,
     mode: Mode,
     root: RelPath,
     entry: Option<Entry>,
-    with_texts: bool,
 ) -> Wanted
-    ensures { result ≡ wanted_with view.entry.served.now target mode root entry with_texts }
+    ensures { result ≡ wanted_with view.entry.served.now aim.now mode root entry }
 {
     Wanted {
         request: Request {
-            target,
+            target: aim.target,
             mode,
             options: view.served.options,
         },
         root,
         entry,
-        with_texts,
+        with_texts: aim.with_texts,
     }
 }
 
@@ -228,45 +236,44 @@ fn only_name(view: View<'_>, path: &RelPath) -> Result<Name, Refused>
     }
 }
 
-// An update of one entry. Where its directory is gone in the target, it is said of a name that the root doesn't have: so the entry is deleted.
-fn update_entry(
-    view: View<'_>,
-    target: Rev,
-    name: Name,
-    at: RelPath,
-    with_texts: bool,
-) -> Result<Wanted, Refused>
-    ensures { (free : Option (List ℕ)) × IfSome free (λ other. look view.entry.served.now.repo target (other ∷ []) ≡ None) × Gives (λ wanted. wanted) result (updates view.entry.served.now view.entry.session.now target free name at with_texts) }
+// The same where its directory is gone in the target: it is said of a name that the root doesn't have, so the entry is deleted.
+fn update_gone(view: View<'_>, aim: &Aim, name: Name, at: RelPath) -> Result<Wanted, Refused>
+    ensures { Gives (λ wanted. wanted) result (updates_gone view.entry.served.now aim.now aim.now.free name at) }
 {
-    if view.served.has_directory(target, &view.session.at) {
-        let root = view.session.at.clone()?;
-        let reported = name.clone()?;
-        let entry = Entry { name, reported, at };
-        return Ok(wanted_with(view, target, Mode::Update, root, Some(entry), with_texts));
-    }
-    match free_name(view, target)? {
-        Some(reported) => {
-            let root = RelPath::root(view.alloc);
-            let entry = Entry { name, reported, at };
-            Ok(wanted_with(view, target, Mode::Update, root, Some(entry), with_texts))
-        }
-        None => Err(failed(
+    let Some(free) = &aim.free else {
+        return Err(failed(
             code::UNSUPPORTED,
             format!(in view.alloc; "a directory of all names isn't served")?,
-        )),
+        ));
+    };
+    let reported = free.clone()?;
+    let entry = Entry { name, reported, at };
+    let root = RelPath::root(view.alloc);
+    Ok(wanted_with(view, aim, Mode::Update, root, Some(entry)))
+}
+
+// An update of one entry.
+fn update_entry(view: View<'_>, aim: &Aim, name: Name, at: RelPath) -> Result<Wanted, Refused>
+    ensures { Gives (λ wanted. wanted) result (updates view.entry.served.now view.entry.session.now aim.now name at) }
+{
+    if !view.served.has_directory(aim.target, &view.session.at) {
+        return update_gone(view, aim, name, at);
     }
+    let root = view.session.at.clone()?;
+    let reported = name.clone()?;
+    let entry = Entry { name, reported, at };
+    Ok(wanted_with(view, aim, Mode::Update, root, Some(entry)))
 }
 
 // A switch of one entry: the client's directory is as the one that the new path is in.
 fn switch_entry(
     view: View<'_>,
-    target: Rev,
+    aim: &Aim,
     name: Name,
     at: RelPath,
     to: &RelPath,
-    with_texts: bool,
 ) -> Result<Wanted, Refused>
-    ensures { Gives (λ wanted. wanted) result (switches view.entry.served.now target name at to.now (last_name to.now) with_texts) }
+    ensures { Gives (λ wanted. wanted) result (switches view.entry.served.now aim.now name at to.now (last_name to.now)) }
 {
     let (Some(above), Some(last)) = (to.parent(view.alloc)?, to.last_name()) else {
         return Err(failed(
@@ -276,7 +283,7 @@ fn switch_entry(
             )?,
         ));
     };
-    if !view.served.has_directory(target, &above) {
+    if !view.served.has_directory(aim.target, &above) {
         return Err(failed(
             code::BAD_PATH,
             format!(in view.alloc; "Target path '/{to}' does not exist")?,
@@ -285,23 +292,22 @@ fn switch_entry(
     let reported = last.clone()?;
     let entry = Entry { name, reported, at };
     let mode = Mode::SwitchTo(above.clone()?);
-    Ok(wanted_with(view, target, mode, above, Some(entry), with_texts))
+    Ok(wanted_with(view, aim, mode, above, Some(entry)))
 }
 
 // One entry of the client's directory.
 fn entry_wanted(
     view: View<'_>,
-    target: Rev,
+    aim: &Aim,
     name: Name,
     to: Option<&RelPath>,
-    with_texts: bool,
 ) -> Result<Wanted, Refused>
-    ensures { (free : Option (List ℕ)) × IfSome free (λ other. look view.entry.served.now.repo target (other ∷ []) ≡ None) × Gives (λ wanted. wanted) result (entry_wanted view.entry.served.now view.entry.session.now target free name (option_copied to.entry) with_texts) }
+    ensures { Gives (λ wanted. wanted) result (entry_wanted view.entry.served.now view.entry.session.now aim.now name (option_copied to.entry)) }
 {
     let at = view.session.at.join(view.alloc, &name)?;
     match to {
-        Some(to) => switch_entry(view, target, name, at, to, with_texts),
-        None => update_entry(view, target, name, at, with_texts),
+        Some(to) => switch_entry(view, aim, name, at, to),
+        None => update_entry(view, aim, name, at),
     }
 }
 
@@ -315,27 +321,32 @@ fn url_wanted(view: View<'_>, url: Option<&[u8]>) -> Result<Option<RelPath>, Ref
     }
 }
 
+// How the whole of the client's directory is driven.
+fn whole_mode(to: Option<RelPath>) -> Mode
+    ensures { result ≡ whole_mode to }
+{
+    match to {
+        Some(to) => Mode::SwitchTo(to),
+        None => Mode::Update,
+    }
+}
+
 // The whole of the client's directory, or one entry of it.
 fn part_wanted(
     view: View<'_>,
-    target: Rev,
+    aim: &Aim,
     entry: &[u8],
     to: Option<RelPath>,
-    with_texts: bool,
 ) -> Result<Wanted, Refused>
-    ensures { (free : Option (List ℕ)) × IfSome free (λ other. look view.entry.served.now.repo target (other ∷ []) ≡ None) × Gives (λ wanted. wanted) result (part_wanted view.entry.served.now view.entry.session.now target free entry.now to with_texts) }
+    ensures { Gives (λ wanted. wanted) result (part_wanted view.entry.served.now view.entry.session.now aim.now entry.now to) }
 {
     if entry.is_empty() {
-        let mode = match to {
-            Some(to) => Mode::SwitchTo(to),
-            None => Mode::Update,
-        };
         let root = view.session.at.clone()?;
-        return Ok(wanted_with(view, target, mode, root, None, with_texts));
+        return Ok(wanted_with(view, aim, whole_mode(to), root, None));
     }
     let path = read_path(view.alloc, entry)?;
     let name = only_name(view, &path)?;
-    entry_wanted(view, target, name, to.as_ref(), with_texts)
+    entry_wanted(view, aim, name, to.as_ref())
 }
 
 // A depth without directories isn't served.
@@ -357,9 +368,15 @@ fn wanted_by(view: View<'_>, asked: &Asked<'_>) -> Result<Wanted, Refused>
     ensures { IsWanted view.entry.served.now view.entry.session.now (asked_as asked.now) result }
 {
     let target = view.rev(asked.rev)?;
+    let free = free_name(view, target)?;
     deep(view, asked.recurse)?;
     let to = url_wanted(view, asked.url)?;
-    part_wanted(view, target, asked.entry, to, asked.with_texts)
+    let aim = Aim {
+        target,
+        free,
+        with_texts: asked.with_texts,
+    };
+    part_wanted(view, &aim, asked.entry, to)
 }
 
 /// What a command asks for.
