@@ -2,7 +2,7 @@
 use Rattle.std.proofs.Common.{◌≡◌, ◌≢◌, inl, inr, ℕ, Bool, true, false, true≢false, List, [], ◌++◌, append-nil, append_assoc, codes, bytes_eq, Option, Some, refl, sym, subst, MatchBool}
 use Rattle.svn_wire.specs.declared.token.Token.{Token}
 use Rattle.svn_wire.specs.Answers.{failure_of}
-use Rattle.svn_wire.specs.Writing.{text_bytes}
+use Rattle.svn_wire.specs.Writing.{number_bytes, text_bytes}
 use Rattle.svn_served.specs.declared.connection.Phase.{Phase}
 use Rattle.svn_served.specs.declared.connection.Phase.TheVariants as phases
 use Rattle.svn_replies.specs.declared.fault.Refused.{Refused}
@@ -27,6 +27,9 @@ other false P Q is q = q
 three_parts : (out a b c : List ℕ) → ((out ++ a) ++ b) ++ c ≡ out ++ (a ++ (b ++ c))
 three_parts out a b c = simp append_assoc
 
+five_parts : (out a b c d e : List ℕ) → ((((out ++ a) ++ b) ++ c) ++ d) ++ e ≡ out ++ (a ++ (b ++ (c ++ (d ++ e))))
+five_parts out a b c d e = simp append_assoc
+
 all_parts : (out a b c d e f g : List ℕ)
     → ((((((out ++ a) ++ b) ++ c) ++ d) ++ e) ++ f) ++ g ≡ out ++ (a ++ (b ++ ((c ++ (d ++ (e ++ f))) ++ g)))
 all_parts out a b c d e f g = simp append_assoc
@@ -43,6 +46,13 @@ unfolding success
 admitted s session uuid url out a b c d e f is_uuid is_url p q r t u v =
     rw (v, u, t, r, q, p, is_uuid, is_url)
     (all_parts out (success []) (codes "( success ( ") (text_bytes s.uuid) (text_bytes session.url) (codes "( ") (codes ") ") (codes ") ) "))
+
+pub sent_parts : (code : ℕ) (message out a b c d : List ℕ) → a ≡ out ++ codes "( abort-edit ( ) ) " → b ≡ a ++ codes "( failure ( ( "
+    → c ≡ b ++ number_bytes code → d ≡ c ++ text_bytes message → d ++ codes "0: 0 ) ) ) " ≡ out ++ sent_back code message
+unfolding failure
+sent_parts code message out a b c d p q r t =
+    rw (t, r, q, p)
+    (five_parts out (codes "( abort-edit ( ) ) ") (codes "( failure ( ( ") (number_bytes code) (text_bytes message) (codes "0: 0 ) ) ) "))
 
 -- ---- who is let in
 

@@ -21,13 +21,15 @@ use Rattle.svn_repo.specs.History.{History}
 use Rattle.svn_wire_calls.specs.Entries.{AreWritten}
 use Rattle.svn_served.specs.declared.driving.Driven.{Driven}
 use Rattle.svn_served.specs.declared.driving.Driven.TheVariants.{Whole, Failed}
+use Rattle.svn_replies.specs.declared.fault.Refused.{Refused}
+use Rattle.svn_replies.specs.declared.fault.Refused.TheVariants as refused
 use Rattle.svn_replies.specs.declared.served.Served.{Served}
 use Rattle.svn_served.specs.declared.notes.Notes.{Notes}
 use Rattle.svn_served.specs.declared.wanted.Entry.{Entry}
 use Rattle.svn_served.specs.declared.wanted.Wanted.{Wanted}
 use Rattle.svn_replies.specs.Answers.{failure}
 use Rattle.svn_served.specs.ClientCalls.{client_calls}
-use Rattle.svn_replies.specs.Refusals.{Reason, fails}
+use Rattle.svn_replies.specs.Refusals.{Reason, fails, refusal_code}
 use Rattle.svn_served.specs.Told.{Tells}
 
 -- what a drive is made from, and of it what a client is sent
@@ -70,6 +72,11 @@ report_code (reports.NoNode i) = 160013
 report_code reports.NoEntries = 165004
 report_code (reports.ParentNotDir i) = 160016
 report_code reports.RootNotDir = 160016
+
+-- a fault of a report as the client is told it
+abbrev pub IsReportRefusal : ReportFault → Refused → Type 0
+IsReportRefusal reports.Memory e = e ≡ refused.Memory
+IsReportRefusal fault e = refusal_code e ≡ Some (report_code fault)
 
 abbrev pub tested_by : Option ReportFault → Result (Unit {0}) Reason
 tested_by None = Ok tt

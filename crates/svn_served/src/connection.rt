@@ -115,7 +115,6 @@ fn answer(
 }
 
 // A client's failure as it is sent back.
-#[tactic(auto, unfolding(svn_replies::specs::Answers::failure))]
 fn push_back(out: &mut Vec<u8>, code: u64, message: &[u8]) -> Result<(), AllocError>
     ensures { OnOk result (out.new.items ≡ out.old.items ++ sent_back code message.now) }
 {

@@ -3,8 +3,8 @@ ghost use Rattle.std.specs.Prelude.{◌≡◌, List, ℕ, Some, IfOk, OnOk};
 ghost use Rattle.std.specs.Option.{option_copied};
 ghost use Rattle.std.specs.Io.KnownBytes.{Appends};
 ghost use Rattle.svn_replies.specs.Answers.{failure};
-ghost use Rattle.svn_replies.specs.Refusals.{Fails, Gives};
-ghost use Rattle.svn_served.specs.Drives.{noted_drive, wanted_drive, client_name, tested, tested_by, target_code, LeavesWritten, TellsEnd, IsDrive};
+ghost use Rattle.svn_replies.specs.Refusals.{Gives};
+ghost use Rattle.svn_served.specs.Drives.{noted_drive, wanted_drive, client_name, IsReportRefusal, tested, target_code, LeavesWritten, TellsEnd, IsDrive};
 
 use crate::client_view::ClientView;
 use crate::fault::ServeFault;
@@ -13,7 +13,6 @@ use crate::wanted::{Entry, Wanted};
 use std::alloc::{AllocError, Global};
 use std::io::Write;
 use svn_drive::{DriveEnd, DriveFault, ReportFault, check_report, drive_request};
-use svn_editor::EditFault;
 use svn_replies::{Failure, Refused, Served, code, push_failure};
 use svn_report::Report;
 use svn_types::Name;
@@ -30,7 +29,7 @@ pub(crate) enum Driven {
 
 // Why a report can't be served.
 fn report_failure(alloc: Global, fault: ReportFault) -> Result<Refused, AllocError>
-    ensures { IfOk result (λ refused. Fails refused (tested_by (Some fault))) }
+    ensures { IfOk result (IsReportRefusal fault) }
 {
     let code = match fault {
         ReportFault::Memory => return Ok(Refused::Memory),
@@ -141,12 +140,10 @@ fn make_calls<W: Write>(
         editor: WireEditor::new(alloc, writer, notes),
     };
     let end = drive_editor(alloc, notes, &mut editor);
-    if end == Err(DriveFault::Editor(EditFault::Stopped)) {
-        if let Some(error) = editor.editor.take_failure() {
-            return Err(ServeFault::Write(error));
-        }
+    match editor.editor.take_failure() {
+        Some(error) => Err(ServeFault::Write(error)),
+        None => Ok(end),
     }
-    Ok(end)
 }
 
 // Says how a drive ended, where the client isn't told by its calls.

@@ -79,7 +79,6 @@ fn is_admitted(mechanism: &[u8]) -> bool
 }
 
 // That a client is let in, and which repository it is.
-#[tactic(auto, unfolding(svn_replies::specs::Answers::success))]
 fn push_admission(served: &Served, session: &Session, out: &mut Vec<u8>) -> Result<(), AllocError>
     ensures { OnOk result (out.new.items ≡ out.old.items ++ admission served.now session.now) }
 {
