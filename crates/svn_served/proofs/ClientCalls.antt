@@ -20,11 +20,12 @@ module _ {E : Type 0} (answers : E → Call → Result (Unit {0}) EditFault → 
   after_one true call e m w rest h more = subst (λ (x : E). Leads answers rest x w) h.1 more
   after_one false call e m w rest h more = passed_first call e m w rest h more
 
-  module _ {V : Type 0} (editor : V → E) (name : V → Option (List ℕ)) (texts : V → Bool) where
-    -- the answers of an editor that passes calls on so
+  module _ {V N : Type 0} (editor : V → E) (held : V → N) (name : V → Option (List ℕ)) (texts : V → Bool) where
+    -- the answers of an editor that passes calls on so, always to the same one
     abbrev pub Views : V → Call → Result (Unit {0}) EditFault → V → Type 0
     Views before call answer after =
-        (name after ≡ name before) × (texts after ≡ texts before) × Shows answers (name before) (texts before) (editor before) call answer (editor after)
+        (name after ≡ name before) × (texts after ≡ texts before) × (held after ≡ held before)
+        × Shows answers (name before) (texts before) (editor before) call answer (editor after)
 
     pub leads_on : (calls : List Call) (v w : V) → Leads Views calls v w
         → Leads answers (client_calls (name v) (texts v) calls) (editor v) (editor w)
@@ -34,8 +35,8 @@ module _ {E : Type 0} (answers : E → Call → Result (Unit {0}) EditFault → 
         let rest = leads_on calls h.0 w h.2 in
         let with_texts = subst (λ (t : Bool). Leads answers (client_calls (name h.0) t calls) (editor h.0) (editor w)) step.1 rest in
         let same = subst (λ (n : Option (List ℕ)). Leads answers (client_calls n (texts v) calls) (editor h.0) (editor w)) step.0 with_texts in
-        after_one (is_abort c) (client_call (name v) (texts v) c) (editor v) (editor h.0) (editor w) (client_calls (name v) (texts v) calls) step.2 same
+        after_one (is_abort c) (client_call (name v) (texts v) c) (editor v) (editor h.0) (editor w) (client_calls (name v) (texts v) calls) step.3 same
 
     -- of a drive that is given up the client isn't told by a call
     pub abort_passed : (v w : V) (answer : Result (Unit {0}) EditFault) → Views v AbortEdit answer w → editor w ≡ editor v
-    abort_passed v w answer h = h.2.1
+    abort_passed v w answer h = h.3.1

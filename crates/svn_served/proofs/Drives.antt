@@ -72,8 +72,8 @@ module _ {V : Type 0} (answers : V → Call → Result (Unit {0}) EditFault → 
 
 -- ---- what is written
 
-module _ {E N V : Type 0} (writer : E → N) (contents : E → Option (List ℕ)) (teller : E → Notes) (editor : V → E) (name : V → Option (List ℕ))
-    (texts : V → Bool) where
+module _ {E N M V : Type 0} (writer : E → N) (contents : E → Option (List ℕ)) (teller : E → Notes) (editor : V → E) (held : V → M)
+    (name : V → Option (List ℕ)) (texts : V → Bool) where
   -- what may be said of nodes
   abbrev pub told_by : Notes → Path → Option Entered → Type 0
   told_by n = Tells n.served.now (input_of n.served.now.repo n.report.now n.request.now) (option_copied n.entry)
@@ -82,7 +82,7 @@ module _ {E N V : Type 0} (writer : E → N) (contents : E → Option (List ℕ)
   Writing = Writes writer contents teller told_by
 
   abbrev pub Making : V → Call → Result (Unit {0}) EditFault → V → Type 0
-  Making = Views Writing editor name texts
+  Making = Views Writing editor held name texts
 
   passed_keeps : (e f : E) (c : Call) (r : Result (Unit {0}) EditFault) → PassesOn Writing e c r f → writer f ≡ writer e
   passed_keeps e f c r (inl h) = h.0
@@ -94,7 +94,11 @@ module _ {E N V : Type 0} (writer : E → N) (contents : E → Option (List ℕ)
 
   -- each call is for the same writer
   pub making_keeps : (v : V) (c : Call) (r : Result (Unit {0}) EditFault) (w : V) → Making v c r w → writer (editor w) ≡ writer (editor v)
-  making_keeps v c r w h = shown_keeps (is_abort c) (editor v) (editor w) (client_call (name v) (texts v) c) r h.2
+  making_keeps v c r w h = shown_keeps (is_abort c) (editor v) (editor w) (client_call (name v) (texts v) c) r h.3
+
+  -- and by the same editor
+  pub making_holds : (v : V) (c : Call) (r : Result (Unit {0}) EditFault) (w : V) → Making v c r w → held w ≡ held v
+  making_holds v c r w h = h.2
 
   module _ (n : Notes) (v : V) (is : teller (editor v) ≡ n) (named : name v ≡ client_name (option_copied n.entry))
       (law : CallsAreWritten writer contents teller told_by (editor v)) where
@@ -105,7 +109,7 @@ module _ {E N V : Type 0} (writer : E → N) (contents : E → Option (List ℕ)
     sent : (calls : List Call) (w : V) → Leads Making calls v w
         → (bytes : List ℕ) × AreSent made calls bytes × Appends (contents (editor v)) (contents (editor w)) bytes
     sent calls w h =
-        let x = (law (client_calls (name v) (texts v) calls) (editor w) (leads_on Writing editor name texts calls v w h)).1 in
+        let x = (law (client_calls (name v) (texts v) calls) (editor w) (leads_on Writing editor held name texts calls v w h)).1 in
         let by_notes = subst (λ (m : Notes). AreWritten (told_by m) (client_calls (name v) (texts v) calls) x.0) is x.1 in
         (x.0, subst (λ (m : Option (List ℕ)). AreWritten (told_by n) (client_calls m (texts v) calls) x.0) named by_notes, x.2)
 
@@ -127,7 +131,7 @@ module _ {E N V : Type 0} (writer : E → N) (contents : E → Option (List ℕ)
     halted stop.Cancelled k m w answer target h given_up less =
         let front = stopped Making made.request.options.cancel_after k k (calls_of made) v m h in
         let x = sent (take k (calls_of made)) m front.0 in
-        let same : contents (editor w) ≡ contents (editor m) = ap contents (abort_passed Writing editor name texts m w answer given_up) in (
+        let same : contents (editor w) ≡ contents (editor m) = ap contents (abort_passed Writing editor held name texts m w answer given_up) in (
           x.0,
           record { asked = front.1; before_last = less; target = target; sent = x.1 },
           subst (λ (new : Option (List ℕ)). Appends (contents (editor v)) new x.0) (sym same) x.2,

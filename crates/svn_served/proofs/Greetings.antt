@@ -84,8 +84,8 @@ module _ (s : Served) (session : Session) (c : Option (List ℕ)) (mechanism : L
   lets_so after bytes h = subst (λ (x : Option (List ℕ)). LetsInBy s session x after bytes) is h
 
   pub lets_in : is_admitted mechanism ≡ true → (old new : List ℕ) → new ≡ old ++ admission s session → LetsIn (phases.Ready session) old new
-  lets_in yes old new written =
-      (admission s session, lets_so (phases.Ready session) (admission s session) (chosen (is_admitted mechanism) _ _ yes (refl, refl)), written)
+  lets_in admits old new written =
+      (admission s session, lets_so (phases.Ready session) (admission s session) (chosen (is_admitted mechanism) _ _ admits (refl, refl)), written)
 
   pub sends_away : is_admitted mechanism ≡ false → (old new : List ℕ) → new ≡ old ++ codes "( failure ( 39:Must authenticate with listed mechanism ) ) "
       → LetsIn phases.Over old new

@@ -15,7 +15,7 @@ fails_first refused.Memory read more h = tt
 -- what `?` returns of it
 pub exits : {X Y : Type 0} (view : X → Y) (r : Result X Refused) (e : Refused) (read : Result Y Reason) → IsErr r × IsErrAnd r (λ x. x ≡ e) → Fails e read
     → Gives view r read
-exits view r e read h fails = let p = err_from_is_err_and r h.1 in rw (p.1, p.2) fails
+exits view r e read h first = let p = err_from_is_err_and r h.1 in rw (p.1, p.2) first
 
 -- a failure of a code
 pub fails_by : {A : Type 0} (e : Refused) (code : ℕ) (read : Result A Reason) → refusal_code e ≡ Some code → read ≡ Err (fails code) → Fails e read

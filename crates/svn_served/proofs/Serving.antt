@@ -1,5 +1,6 @@
 -- What is written to a client, by the bytes that it sends.
-use Rattle.std.proofs.Common.{◌≡◌, ◌⊎◌, inl, inr, ℕ, Bool, true, false, List, [], ◌∷◌, ◌++◌, append-nil, append_assoc, Option, Some, None, IfSome, Ok, refl, sym, ap, ◌∙◌, subst}
+use Rattle.std.proofs.Common.{◌≡◌, ◌⊎◌, inl, inr, ℕ, Bool, true, false, List, [], ◌∷◌, ◌++◌, append-nil, append_assoc, Option, Some, None, IfSome, Result, Ok, Err, refl, sym, ap, ◌∙◌, subst}
+use Rattle.std.specs.Prelude.{IfOk}
 use Rattle.std.specs.Io.KnownBytes.{Appends, Keeps}
 use Rattle.std.proofs.KnownBytes.{Appends-kept, Appends-nil, Appends-trans, Consumes-nil, Consumes-trans}
 use Rattle.svn_wire.specs.declared.token.Token.{Token}
@@ -8,6 +9,7 @@ use Rattle.svn_wire.specs.Sessions.{Heard, items_of, items_in, LeavesOff}
 use Rattle.svn_wire.proofs.StreamItems.{fresh_items, next_leaves, leaves_nothing, leaves_more, leaves_later, none_now}
 use Rattle.svn_served.specs.declared.connection.Phase.{Phase}
 use Rattle.svn_served.specs.declared.connection.Phase.TheVariants.{Greeted, Over}
+use Rattle.svn_served.specs.declared.fault.ServeFault.{ServeFault}
 use Rattle.svn_served.specs.declared.opening.TheConstants.{GREETING}
 use Rattle.svn_served.specs.declared.exchange.TheConstants.{CLIENT_LIMITS}
 use Rattle.svn_replies.specs.declared.served.Served.{Served}
@@ -127,6 +129,27 @@ module _ (s : Served) where
     written = Appends-kept x x y [] (Appends-nil x) kept;
   }
 
+  -- ---- as they are come by
+
+  pub goes_taken : (p q : Phase) (a m b : Waiting) (o : Option (List Token)) (tokens item : List Token) (i x y : Option (List ℕ)) → TakesItem a o m
+      → o ≡ Some tokens → item ≡ tokens → b ≡ m → (bytes : List ℕ) × Takes s p item q bytes × Appends x y bytes → Goes s p a q b i i x y
+  goes_taken p q a m b o tokens item i x y taken is same later did =
+      let here = subst (λ (r : Option (List Token)). TakesItem a r m) is taken in
+      let takes = subst (λ (l : List Token). Takes s p l q did.0) same did.1 in
+      subst (λ (w : Waiting). Goes s p a q w i i x y) (sym later) (goes_item p q a m tokens did.0 i x y here takes did.2)
+
+  pub goes_read : (r : Result Bool ServeFault) (p q : Phase) (a m b : Waiting) (o : Option (List Token)) (i j x y : Option (List ℕ)) → TakesItem a o m
+      → o ≡ None → q ≡ p → IfOk r (λ more. Reads more m b i j) → Keeps x y → IfOk r (λ more. Goes s p a q b i j x y)
+  goes_read (Ok more) p q a m b o i j x y taken is stays h kept =
+      let none = subst (λ (t : Option (List Token)). TakesItem a t m) is taken in
+      subst (λ (z : Phase). Goes s p a z b i j x y) (sym stays) (goes_bytes more p a m b i j x y none h kept)
+  goes_read (Err e) p q a m b o i j x y taken is stays h kept = tt
+
+  pub goes_more : (t : Served) (p q r : Phase) (a b c : Waiting) (i j k x y z : Option (List ℕ)) → t ≡ s → Goes s p a q b i j x y → Goes t q b r c j k y z
+      → Goes s p a r c i k x z
+  goes_more t p q r a b c i j k x y z same h g =
+      goes_both p q r a b c i j k x y z h (subst (λ (u : Served). Goes u q b r c j k y z) same g)
+
   -- ---- the end
 
   same_reads : (a b : Waiting) → IsSameStream a b → reads_now b ≡ reads_now a
@@ -143,6 +166,11 @@ module _ (s : Served) where
   done_unless true p a m b i j none h = tt
   done_unless false p a m b i j none h = inr (ap items_in h.0 ∙ none_left a m none, h.2)
 
+  pub done_read : (r : Result Bool ServeFault) (p : Phase) (a m b : Waiting) (o : Option (List Token)) (i j : Option (List ℕ)) → TakesItem a o m → o ≡ None
+      → IfOk r (λ more. Reads more m b i j) → IfOk r (λ more. DoneUnless more p b j)
+  done_read (Ok more) p a m b o i j taken is h = done_unless more p a m b i j (subst (λ (t : Option (List Token)). TakesItem a t m) is taken) h
+  done_read (Err e) p a m b o i j taken is h = tt
+
   with_none : (w : Waiting) → items_in (with_bytes w []) ≡ items_in w
   with_none w =
       ap (λ (l : List ℕ). items_in (record { limits = w.limits; tokens = w.tokens; room = w.room; level = w.level; bytes = l })) (append-nil w.bytes)
@@ -158,6 +186,12 @@ module _ (s : Served) where
       done_or : IsDone after left (Some rest) → (after ≡ Over) ⊎ (items_in (with_bytes left rest) ≡ [])
       done_or (inl over) = inl over
       done_or (inr end) = inr (ap (λ (l : List ℕ). items_in (with_bytes left l)) end.1 ∙ with_none left ∙ end.0)
+
+  -- what was flushed is what was written
+  pub flushed : (input a b c : Option (List ℕ)) → IfSome input (λ came. (written : List ℕ) × IsServed s came written × Appends a b written) → Keeps b c
+      → IfSome input (λ came. (written : List ℕ) × IsServed s came written × Appends a c written)
+  flushed None a b c h kept = tt
+  flushed (Some came) a b c h kept = (h.0, h.1, Appends-kept a b c h.0 h.2 kept)
 
   -- a whole connection
   pub is_served : (after : Phase) (left : Waiting) (input input' begun greeted output : Option (List ℕ)) → Appends begun greeted GREETING.now

@@ -17,7 +17,7 @@ pub(crate) struct ClientView<'a, E> {
     pub(crate) name: Option<&'a Name>,
     /// Whether texts are sent.
     pub(crate) with_texts: bool,
-    pub(crate) editor: E,
+    pub(crate) editor: &'a mut E,
 }
 
 // A path with the client's name of the one entry.
@@ -115,7 +115,8 @@ impl<E: Editor> Editor for ClientView<'_, E> {
 
     ghost answers = { λ before call answer after.
         (option_copied after.name ≡ option_copied before.name) × (after.with_texts ≡ before.with_texts)
-        × Shows E.answers (option_copied before.name) before.with_texts before.editor call answer after.editor };
+        × (after.editor.ghost_name ≡ before.editor.ghost_name)
+        × Shows E.answers (option_copied before.name) before.with_texts before.editor.now call answer after.editor.now };
 
     fn call(&mut self, call: Call) -> Result<(), EditFault> {
         if call.is_abort() {

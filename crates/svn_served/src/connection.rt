@@ -122,7 +122,8 @@ fn push_back(out: &mut Vec<u8>, code: u64, message: &[u8]) -> Result<(), AllocEr
     out.extend_from_slice(b"( failure ( ( ")?;
     push_number(out, code)?;
     push_text(out, message)?;
-    out.extend_from_slice(b"0: 0 ) ) ) ")
+    out.extend_from_slice(b"0: 0 ) ) ) ")?;
+    Ok(())
 }
 
 // How a client took a drive: its failure is sent back.

@@ -103,25 +103,46 @@ fn client_name(entry: Option<&Entry>) -> Option<&Name>
     }
 }
 
-// Makes the calls.
-fn drive_editor<W: Write>(
+// Makes the calls as the client is sent them.
+fn drive_view<W: Write>(
     alloc: Global,
     notes: Notes<'_>,
-    editor: &mut ClientView<'_, WireEditor<'_, W, Notes<'_>>>,
+    view: &mut ClientView<'_, WireEditor<'_, W, Notes<'_>>>,
 ) -> Result<DriveEnd, DriveFault>
-    requires notes { editor.old.editor.teller ≡ notes }
-    requires name { option_copied editor.old.name ≡ client_name (option_copied notes.entry) }
-    ensures written { LeavesWritten (noted_drive notes.entry editor.old.with_texts) result (W.contents editor.old.editor.writer.now) (W.contents editor.new.editor.writer.now) }
-    ensures same_writer { editor.new.editor.writer.ghost_name ≡ editor.old.editor.writer.ghost_name }
+    requires notes { view.old.editor.now.teller ≡ notes }
+    requires name { option_copied view.old.name ≡ client_name (option_copied notes.entry) }
+    ensures written { LeavesWritten (noted_drive notes.entry view.old.with_texts) result (W.contents view.old.editor.now.writer.now) (W.contents view.new.editor.now.writer.now) }
+    ensures same_editor { view.new.editor.ghost_name ≡ view.old.editor.ghost_name }
+    ensures same_writer { view.new.editor.now.writer.ghost_name ≡ view.old.editor.now.writer.ghost_name }
 {
-    calls_are_written(&editor.editor);
+    calls_are_written(view.editor);
     drive_request(
         alloc,
         &notes.served.repo,
         notes.report,
         notes.request,
-        editor,
+        view,
     )
+}
+
+// Makes the calls.
+fn drive_editor<W: Write>(
+    alloc: Global,
+    notes: Notes<'_>,
+    with_texts: bool,
+    editor: &mut WireEditor<'_, W, Notes<'_>>,
+) -> Result<DriveEnd, DriveFault>
+    requires { editor.old.teller ≡ notes }
+    ensures written { LeavesWritten (noted_drive notes.entry with_texts) result (W.contents editor.old.writer.now) (W.contents editor.new.writer.now) }
+    ensures same_writer { editor.new.writer.ghost_name ≡ editor.old.writer.ghost_name }
+{
+    let mut view = ClientView {
+        alloc,
+        name: client_name(notes.entry),
+        with_texts,
+        editor,
+    };
+    drive_view(alloc, notes, &mut view)
 }
 
 // Makes the calls, and returns why the writer failed where it did.
@@ -133,14 +154,9 @@ fn make_calls<W: Write>(
 ) -> Result<Result<DriveEnd, DriveFault>, ServeFault>
     ensures { IfOk result (λ end. LeavesWritten (noted_drive notes.entry with_texts) end (W.contents writer.old) (W.contents writer.new)) }
 {
-    let mut editor = ClientView {
-        alloc,
-        name: client_name(notes.entry),
-        with_texts,
-        editor: WireEditor::new(alloc, writer, notes),
-    };
-    let end = drive_editor(alloc, notes, &mut editor);
-    match editor.editor.take_failure() {
+    let mut editor = WireEditor::new(alloc, writer, notes);
+    let end = drive_editor(alloc, notes, with_texts, &mut editor);
+    match editor.take_failure() {
         Some(error) => Err(ServeFault::Write(error)),
         None => Ok(end),
     }
