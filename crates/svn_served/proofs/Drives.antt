@@ -1,6 +1,5 @@
 -- What is written of a drive.
 use Rattle.std.proofs.Common.{◌≡◌, ℕ, zero, suc, Bool, true, false, List, [], ◌∷◌, take, length, Option, Some, None, Result, Ok, Err, ◌++◌, inl, inr, refl, sym, ap, ◌∙◌, subst, MatchBool}
-use Rattle.std.specs.Option.{option_copied}
 use Rattle.std.specs.Io.KnownBytes.{Appends}
 use Rattle.std.proofs.KnownBytes.{Appends-trans}
 use Rattle.svn_types.specs.Names.{Path}
@@ -23,8 +22,8 @@ use Rattle.svn_wire_calls.specs.Laws.{Writes, CallsAreWritten}
 use Rattle.svn_served.specs.declared.driving.Driven.{Driven}
 use Rattle.svn_served.specs.declared.notes.Notes.{Notes}
 use Rattle.svn_replies.specs.Answers.{failure}
-use Rattle.svn_served.specs.ClientCalls.{client_call, client_calls, PassesOn, Skips}
-use Rattle.svn_served.specs.Drives.{Drive, noted_drive, input, calls_of, client_name, AreSent, LeavesWritten, TellsEnd, IsStopped, IsNone, IsDrive}
+use Rattle.svn_served.specs.ClientCalls.{client_name, client_call, client_calls, PassesOn, Skips}
+use Rattle.svn_served.specs.Drives.{Drive, noted_drive, input, calls_of, AreSent, LeavesWritten, TellsEnd, IsStopped, IsNone, IsDrive}
 use Rattle.svn_served.specs.Told.{Tells}
 use Rattle.svn_served.proofs.ClientCalls.{Views, leads_on, abort_passed}
 
@@ -76,7 +75,7 @@ module _ {E N M V : Type 0} (writer : E → N) (contents : E → Option (List �
     (name : V → Option (List ℕ)) (texts : V → Bool) where
   -- what may be said of nodes
   abbrev pub told_by : Notes → Path → Option Entered → Type 0
-  told_by n = Tells n.served.now (input_of n.served.now.repo n.report.now n.request.now) (option_copied n.entry)
+  told_by n = Tells n.served.now (input_of n.served.now.repo n.report.now n.request.now) n.entry.now
 
   abbrev pub Writing : E → Call → Result (Unit {0}) EditFault → E → Type 0
   Writing = Writes writer contents teller told_by
@@ -100,7 +99,7 @@ module _ {E N M V : Type 0} (writer : E → N) (contents : E → Option (List �
   pub making_holds : (v : V) (c : Call) (r : Result (Unit {0}) EditFault) (w : V) → Making v c r w → held w ≡ held v
   making_holds v c r w h = h.2
 
-  module _ (n : Notes) (v : V) (is : teller (editor v) ≡ n) (named : name v ≡ client_name (option_copied n.entry))
+  module _ (n : Notes) (v : V) (is : teller (editor v) ≡ n) (named : name v ≡ client_name n.entry.now)
       (law : CallsAreWritten writer contents teller told_by (editor v)) where
     abbrev made : Drive
     made = noted_drive n (texts v)

@@ -87,6 +87,10 @@ reports_are_driven s session state items last after bytes inner is h = runs_end 
 
 -- ---- the last command
 
+-- what is written before it is known what comes
+pub at_first : (none out shown : List ℕ) → none ≡ [] → out ≡ none ++ no_mechanism → shown ≡ out → shown ≡ no_mechanism
+at_first none out shown empty first same = same ∙ first ∙ ap (λ (l : List ℕ). l ++ no_mechanism) empty
+
 pub answers_drive : (s : Served) (read : Result (Wanted × ReportView) Reason) (x : Wanted × ReportView) (driven : Driven) (sent : List ℕ)
     (a b c : Option (List ℕ)) → read ≡ Ok x → IsDrive (wanted_drive s x.0 x.1) driven sent → Appends a b no_mechanism → Appends b c sent
     → (bytes : List ℕ) × IsReportAnswer s read driven bytes × Appends a c bytes

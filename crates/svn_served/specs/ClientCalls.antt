@@ -1,9 +1,10 @@
 -- The calls of a drive as a client is sent them.
+--     client_name entry      the name of the one entry at the client, where a drive is of one
 --     client_path name path      a path with the client's name of the one entry, where a drive is of one
 --     client_call name texts call      a call with such paths, and where texts aren't sent without theirs
 --     client_calls name texts calls      the calls that a client is sent of these: all but AbortEdit
 --     Shows answers name texts before call answer after      a call is passed on so to an editor
-use Rattle.std.specs.Prelude.{◌≡◌, ◌⊎◌, Bool, true, false, List, [], ◌∷◌, drop, Option, Some, None, Result, Ok, Err, ℕ, if◌then◌else◌, MatchBool}
+use Rattle.std.specs.Prelude.{◌≡◌, ◌⊎◌, Bool, true, false, List, [], ◌∷◌, drop, Option, Some, None, option_map, Result, Ok, Err, ℕ, if◌then◌else◌, MatchBool}
 use Rattle.std.specs.List.{flat_map}
 use Rattle.svn_types.specs.Names.{Path}
 use Rattle.svn_editor.specs.declared.call.Call.{Call}
@@ -11,6 +12,11 @@ use Rattle.svn_editor.specs.declared.call.Call.TheVariants.{SetTargetRevision, O
 use Rattle.svn_editor.specs.declared.fault.EditFault.{EditFault}
 use Rattle.svn_editor.specs.declared.fault.EditFault.TheVariants.{Memory}
 use Rattle.svn_editor.specs.Calls.{is_abort}
+use Rattle.svn_served.specs.declared.wanted.Entry.{Entry}
+
+-- the name of the one entry at the client
+abbrev pub client_name : Option Entry → Option (List ℕ)
+client_name entry = option_map (λ e. e.name) entry
 
 abbrev pub client_path : Option (List ℕ) → Path → Path
 client_path None path = path

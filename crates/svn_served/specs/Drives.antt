@@ -2,8 +2,7 @@
 --     AreSent d calls bytes      these are calls as a client is sent them, with what is said of nodes
 --     LeavesWritten d end old new      what the calls of a drive have left written, by how they ended
 --     IsDrive d driven bytes      all that is written of a drive: its calls; or the first of them and a failure where a stop was asked for; or why there is none
-use Rattle.std.specs.Prelude.{◌≡◌, ◌⊎◌, ℕ, ◌<◌, Bool, List, ◌++◌, take, length, Option, Some, None, option_map, Result, Ok, Err}
-use Rattle.std.specs.Option.{option_copied}
+use Rattle.std.specs.Prelude.{◌≡◌, ◌⊎◌, ℕ, ◌<◌, Bool, List, ◌++◌, take, length, Option, Some, None, Result, Ok, Err}
 use Rattle.std.specs.Io.KnownBytes.{Appends}
 use Rattle.svn_editor.specs.declared.call.Call.{Call}
 use Rattle.svn_report.specs.Reports.{ReportView}
@@ -28,7 +27,7 @@ use Rattle.svn_served.specs.declared.notes.Notes.{Notes}
 use Rattle.svn_served.specs.declared.wanted.Entry.{Entry}
 use Rattle.svn_served.specs.declared.wanted.Wanted.{Wanted}
 use Rattle.svn_replies.specs.Answers.{failure}
-use Rattle.svn_served.specs.ClientCalls.{client_calls}
+use Rattle.svn_served.specs.ClientCalls.{client_name, client_calls}
 use Rattle.svn_replies.specs.Refusals.{Reason, fails, refusal_code}
 use Rattle.svn_served.specs.Told.{Tells}
 
@@ -47,7 +46,7 @@ wanted_drive s w r = record { served = s; report = r; request = w.request; entry
 
 abbrev pub noted_drive : Notes → Bool → Drive
 noted_drive n texts =
-    record { served = n.served.now; report = n.report.now; request = n.request.now; entry = option_copied n.entry; with_texts = texts }
+    record { served = n.served.now; report = n.report.now; request = n.request.now; entry = n.entry.now; with_texts = texts }
 
 abbrev pub input : Drive → DriveInput
 input d = input_of d.served.repo d.report d.request
@@ -55,10 +54,6 @@ input d = input_of d.served.repo d.report d.request
 -- the calls of the drive
 abbrev pub calls_of : Drive → List Call
 calls_of d = drive_for d.served.repo d.report d.request
-
--- the name of the one entry at the client
-abbrev pub client_name : Option Entry → Option (List ℕ)
-client_name entry = option_map (λ e. e.name) entry
 
 abbrev pub AreSent : Drive → List Call → List ℕ → Type 0
 AreSent d calls bytes = AreWritten (Tells d.served (input d) d.entry) (client_calls (client_name d.entry) d.with_texts calls) bytes

@@ -1,9 +1,10 @@
 //! The calls of a drive as a client is sent them.
 ghost use Rattle.std.specs.Prelude.{◌≡◌, IfOk};
 ghost use Rattle.std.specs.Option.{option_copied};
-ghost use Rattle.svn_served.specs.ClientCalls.{client_path, client_text, client_call};
+ghost use Rattle.svn_served.specs.ClientCalls.{client_name, client_path, client_text, client_call};
 
 use crate::notes::path_below;
+use crate::wanted::Entry;
 use std::alloc::{AllocError, Global};
 use svn_editor::{Call, EditFault, Editor};
 use svn_types::{Name, RelPath, Text};
@@ -11,13 +12,23 @@ use svn_types::{Name, RelPath, Text};
 /// An editor that passes calls on as a client is sent them: one entry has the client's name, texts may be left out, and a drive that is given up isn't said
 /// so by a call.
 #[derive(Drop)]
-pub(crate) struct ClientView<'a, E> {
+pub(crate) struct ClientView<'n, 'e, E> {
     pub(crate) alloc: Global,
-    /// The name of the one entry at the client.
-    pub(crate) name: Option<&'a Name>,
+    /// The one entry, where the drive is of one.
+    pub(crate) entry: &'n Option<Entry>,
     /// Whether texts are sent.
     pub(crate) with_texts: bool,
-    pub(crate) editor: &'a mut E,
+    pub(crate) editor: &'e mut E,
+}
+
+// The name of the one entry at the client.
+fn client_name(entry: &Option<Entry>) -> Option<&Name>
+    ensures { option_copied result ≡ client_name entry.now }
+{
+    match entry {
+        Some(entry) => Some(&entry.name),
+        None => None,
+    }
 }
 
 // A path with the client's name of the one entry.
@@ -108,21 +119,20 @@ fn client_call(
     })
 }
 
-impl<E: Editor> Editor for ClientView<'_, E> {
+impl<E: Editor> Editor for ClientView<'_, '_, E> {
     ghost use Rattle.std.specs.Prelude.{◌≡◌};
-    ghost use Rattle.std.specs.Option.{option_copied};
-    ghost use Rattle.svn_served.specs.ClientCalls.{Shows};
+    ghost use Rattle.svn_served.specs.ClientCalls.{client_name, Shows};
 
     ghost answers = { λ before call answer after.
-        (option_copied after.name ≡ option_copied before.name) × (after.with_texts ≡ before.with_texts)
+        (client_name after.entry.now ≡ client_name before.entry.now) × (after.with_texts ≡ before.with_texts)
         × (after.editor.ghost_name ≡ before.editor.ghost_name)
-        × Shows E.answers (option_copied before.name) before.with_texts before.editor.now call answer after.editor.now };
+        × Shows E.answers (client_name before.entry.now) before.with_texts before.editor.now call answer after.editor.now };
 
     fn call(&mut self, call: Call) -> Result<(), EditFault> {
         if call.is_abort() {
             return Ok(());
         }
-        match client_call(self.alloc, self.name, self.with_texts, call) {
+        match client_call(self.alloc, client_name(self.entry), self.with_texts, call) {
             Ok(call) => self.editor.call(call),
             Err(_) => Err(EditFault::Memory),
         }

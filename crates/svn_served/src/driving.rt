@@ -1,21 +1,19 @@
 //! Drives: what comes of a report.
 ghost use Rattle.std.specs.Prelude.{◌≡◌, List, ℕ, Some, IfOk, OnOk};
-ghost use Rattle.std.specs.Option.{option_copied};
 ghost use Rattle.std.specs.Io.KnownBytes.{Appends};
 ghost use Rattle.svn_replies.specs.Answers.{failure};
 ghost use Rattle.svn_replies.specs.Refusals.{Gives};
-ghost use Rattle.svn_served.specs.Drives.{noted_drive, wanted_drive, client_name, IsReportRefusal, tested, target_code, LeavesWritten, TellsEnd, IsDrive};
+ghost use Rattle.svn_served.specs.Drives.{noted_drive, wanted_drive, IsReportRefusal, tested, target_code, LeavesWritten, TellsEnd, IsDrive};
 
 use crate::client_view::ClientView;
 use crate::fault::ServeFault;
 use crate::notes::Notes;
-use crate::wanted::{Entry, Wanted};
+use crate::wanted::Wanted;
 use std::alloc::{AllocError, Global};
 use std::io::Write;
 use svn_drive::{DriveEnd, DriveFault, ReportFault, check_report, drive_request};
 use svn_replies::{Failure, Refused, Served, code, push_failure};
 use svn_report::Report;
-use svn_types::Name;
 use svn_wire_calls::{WireEditor, calls_are_written};
 
 /// How a drive ended.
@@ -93,24 +91,14 @@ fn stopped(alloc: Global) -> Result<Failure, AllocError>
     ))
 }
 
-// The name of the one entry at the client.
-fn client_name(entry: Option<&Entry>) -> Option<&Name>
-    ensures { option_copied result ≡ client_name (option_copied entry.entry) }
-{
-    match entry {
-        Some(entry) => Some(&entry.name),
-        None => None,
-    }
-}
-
 // Makes the calls as the client is sent them.
 fn drive_view<W: Write>(
     alloc: Global,
     notes: Notes<'_>,
-    view: &mut ClientView<'_, WireEditor<'_, W, Notes<'_>>>,
+    view: &mut ClientView<'_, '_, WireEditor<'_, W, Notes<'_>>>,
 ) -> Result<DriveEnd, DriveFault>
     requires notes { view.old.editor.now.teller ≡ notes }
-    requires name { option_copied view.old.name ≡ client_name (option_copied notes.entry) }
+    requires entry { view.old.entry.now ≡ notes.entry.now }
     ensures written { LeavesWritten (noted_drive notes.entry view.old.with_texts) result (W.contents view.old.editor.now.writer.now) (W.contents view.new.editor.now.writer.now) }
     ensures same_editor { view.new.editor.ghost_name ≡ view.old.editor.ghost_name }
     ensures same_writer { view.new.editor.now.writer.ghost_name ≡ view.old.editor.now.writer.ghost_name }
@@ -138,7 +126,7 @@ fn drive_editor<W: Write>(
 {
     let mut view = ClientView {
         alloc,
-        name: client_name(notes.entry),
+        entry: notes.entry,
         with_texts,
         editor,
     };
@@ -197,7 +185,7 @@ pub(crate) fn write_drive<W: Write>(
         served,
         report,
         request: &wanted.request,
-        entry: wanted.entry.as_ref(),
+        entry: &wanted.entry,
     };
     let end = make_calls(alloc, notes, wanted.with_texts, writer)?;
     let driven = tell_end(alloc, end, writer)?;

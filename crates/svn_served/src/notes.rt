@@ -19,7 +19,7 @@ pub(crate) struct Notes<'a> {
     pub(crate) report: &'a Report,
     pub(crate) request: &'a Request,
     /// The one entry, where the drive is of one.
-    pub(crate) entry: Option<&'a Entry>,
+    pub(crate) entry: &'a Option<Entry>,
 }
 
 // Whether nothing is said of a path: of the directory of one entry a client wants nothing.
@@ -60,17 +60,17 @@ fn reported_path(
 }
 
 impl Teller for Notes<'_> {
-    ghost use Rattle.std.specs.Option.{option_copied};
     ghost use Rattle.svn_drive.specs.Requests.{input_of};
     ghost use Rattle.svn_served.specs.Told.{Tells};
 
-    ghost tells = { λ notes. Tells notes.served.now (input_of notes.served.now.repo notes.report.now notes.request.now) (option_copied notes.entry) };
+    ghost tells = { λ notes. Tells notes.served.now (input_of notes.served.now.repo notes.report.now notes.request.now) notes.entry.now };
 
     fn tell(&self, alloc: Global, path: &RelPath) -> Result<Option<Entered>, AllocError> {
-        if says_nothing(self.entry, path) {
+        let entry = self.entry.as_ref();
+        if says_nothing(entry, path) {
             return Ok(None);
         }
-        let path = reported_path(alloc, self.entry, path)?;
+        let path = reported_path(alloc, entry, path)?;
         let following = Following {
             alloc,
             repo: &self.served.repo,
