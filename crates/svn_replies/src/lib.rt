@@ -13,8 +13,8 @@
 //! that aren't those of the command; or memory that ran out.
 //!
 //! Files: `commands` has the commands by their names; `fields` takes their fields apart, `session` what paths, URLs and revisions name, `served` what is read
-//! of a repository. `answers` is about one node or one revision, `log`, `changes`, `locations` and `history` about where nodes were, and what revisions
-//! changed. `writing` writes what answers are made of, `fault` says why a command fails.
+//! of a repository. `answers` is about one node, with `nodes` what is told of it, and `revisions` about one revision; `log`, `changes`, `locations` and
+//! `history` are about where nodes were, and what revisions changed. `writing` writes what answers are made of, `fault` says why a command fails.
 //!
 //! To add a command: its name in `is_known`, an arm of `answer_plain`, its fields, and a definition of its answer in `specs/Commands.antt`.
 //!
@@ -32,11 +32,13 @@ mod fields;
 mod history;
 mod locations;
 mod log;
+mod nodes;
+mod revisions;
 mod served;
 mod session;
 mod writing;
 
-pub use commands::{Replied, reply};
+pub use commands::{Command, Replied, reply};
 pub use fault::{Failure, Refused, code};
 pub use served::{Revisions, Served};
 pub use session::{Session, View, failed, read_path};

@@ -2,7 +2,7 @@
 
 ghost use Rattle.std.specs.Prelude.{◌≡◌, Some, IfOk};
 ghost use Rattle.svn_replies.specs.Refusals.{Gives, refusal_code};
-ghost use Rattle.svn_replies.specs.Named.{after_slash, path_named, path_in, url_named, known_rev, named_rev, node_in, node_of_kind};
+ghost use Rattle.svn_replies.specs.Named.{after_slash, path_named, path_in, place_named, url_named, known_rev, named_rev, node_in, node_of_kind};
 
 use crate::fault::{Failure, Refused, code};
 use crate::served::Served;
@@ -18,6 +18,13 @@ pub struct Session {
     pub url: Text,
     /// The path.
     pub at: RelPath,
+}
+
+/// A path of a revision.
+#[derive(Debug, Drop)]
+pub(crate) struct Place {
+    pub(crate) rev: Rev,
+    pub(crate) path: RelPath,
 }
 
 /// What is served to a client.
@@ -170,6 +177,16 @@ impl View<'_> {
             Some(number) => self.known(Rev(number)),
             None => Ok(self.served.repo.latest()),
         }
+    }
+
+    /// The revision and the path that are named.
+    #[tactic(auto, unfolding(crate::specs::Named::place_named))]
+    pub(crate) fn place(&self, path: &[u8], rev: Option<u64>) -> Result<Place, Refused>
+        ensures { Gives (λ place. (place.rev, place.path)) result (place_named self.now.served.now.repo self.now.session.now.at path.now rev) }
+    {
+        let rev = self.rev(rev)?;
+        let path = self.path(path)?;
+        Ok(Place { rev, path })
     }
 
     /// The node at a path.

@@ -96,8 +96,8 @@ pub(crate) fn push_kind(out: &mut Vec<u8>, kind: Option<Kind>) -> Result<(), All
     }
 }
 
-// A list of one string.
-fn push_some(out: &mut Vec<u8>, value: &[u8]) -> Result<(), AllocError>
+/// A list of one string.
+pub(crate) fn push_some(out: &mut Vec<u8>, value: &[u8]) -> Result<(), AllocError>
     ensures { OnOk result (out.new.items ≡ out.old.items ++ optional (Some value.now)) }
 {
     push_open(out)?;
