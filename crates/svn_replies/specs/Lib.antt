@@ -24,3 +24,5 @@ pub mod Segments
 pub mod Locations
 -- the commands of which no report follows
 pub mod Replies
+-- where a client is that names a URL
+pub mod Sessions

@@ -97,14 +97,15 @@ impl Served {
         ensures before { result ≤ rev }
     {
         let line = self.line_at(rev, path);
-        let mut first = rev;
-        while first.0 > 0 {
-            if !self.is_older(line, first, path) {
-                return first;
+        let mut first = rev.0;
+        while first > 0 {
+            if self.is_older(line, Rev(first), path) {
+                first -= 1;
+            } else {
+                return Rev(first);
             }
-            first = Rev(first.0 - 1);
         }
-        first
+        Rev(first)
     }
 
     /// What the node at a path was copied from in a revision, itself or with a directory above it.

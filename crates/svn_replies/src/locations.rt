@@ -178,13 +178,16 @@ impl View<'_> {
     ) -> Result<(), AllocError>
         ensures { OnOk result ((bytes : List ℕ) × AreLocationsIn self.now.served.now (asked_as asked.now) segments.now (revs_of revs.now) bytes × (out.new.items ≡ out.old.items ++ bytes)) }
     {
-        for token in revs {
-            match token {
-                Token::Number(rev) => self.push_location(out, asked, segments, Rev(*rev))?,
-                _ => return Ok(()),
+        let mut left = revs;
+        'revs: loop {
+            match number_field(left) {
+                Some((rev, after)) => {
+                    self.push_location(out, asked, segments, Rev(rev))?;
+                    left = after;
+                }
+                None => return Ok(()),
             }
         }
-        Ok(())
     }
 
     fn push_locations(&self, out: &mut Vec<u8>, asked: &Asked<'_>) -> Result<(), AllocError>

@@ -15,7 +15,7 @@ ghost use Rattle.svn_replies.specs.NodeBytes.{date_bytes, change_bytes, change_p
 
 use crate::session::{Place, View};
 use crate::writing::{
-    push_bool, push_close, push_done, push_kind, push_known_pair, push_number_pair, push_open,
+    push_bool, push_close, push_done, push_kind, push_known_pair, push_rev_pair, push_open,
     push_optional, push_pair, push_pairs, push_path, push_rev, push_some,
 };
 use std::alloc::{AllocError, Global};
@@ -60,7 +60,7 @@ fn push_change(out: &mut Vec<u8>, told: &Option<Entered>) -> Result<(), AllocErr
 fn push_known_change_pairs(out: &mut Vec<u8>, told: &Entered) -> Result<(), AllocError>
     ensures { OnOk result (out.new.items ≡ out.old.items ++ change_pairs (Some told.now)) }
 {
-    push_number_pair(out, b"svn:entry:committed-rev", told.rev.0)?;
+    push_rev_pair(out, b"svn:entry:committed-rev", told.rev)?;
     push_known_pair(out, b"svn:entry:committed-date", told.date.as_ref())?;
     push_known_pair(out, b"svn:entry:last-author", told.author.as_ref())
 }

@@ -2,6 +2,7 @@
 
 ghost use Rattle.std.specs.Prelude.{◌≡◌, Some, IfOk};
 ghost use Rattle.svn_replies.specs.Refusals.{Gives, refusal_code};
+ghost use Rattle.svn_replies.specs.Sessions.{IsOpened};
 ghost use Rattle.svn_replies.specs.Named.{after_slash, path_named, path_in, place_named, url_named, known_rev, named_rev, node_in, node_of_kind};
 
 use crate::fault::{Failure, Refused, code};
@@ -111,8 +112,10 @@ fn path_of(alloc: Global, root: &[u8], url: &[u8]) -> Result<RelPath, Refused>
 }
 
 impl Session {
-    /// The session of a client that names this URL.
-    pub fn open(alloc: Global, served: &Served, url: &[u8]) -> Result<Session, Refused> {
+    /// The session of a client that names this URL: it is below that of the repository, which is a scheme, a host and where the repository is there.
+    pub fn open(alloc: Global, served: &Served, url: &[u8]) -> Result<Session, Refused>
+        ensures { IfOk result (IsOpened served.now.root url.now) }
+    {
         let Some(host) = host_of(url) else {
             return Err(elsewhere(alloc)?);
         };

@@ -126,12 +126,12 @@ pub(crate) fn push_pair(out: &mut Vec<u8>, name: &[u8], value: &[u8]) -> Result<
     push_close(out)
 }
 
-/// A name and a value that is a number.
-pub(crate) fn push_number_pair(out: &mut Vec<u8>, name: &[u8], value: u64) -> Result<(), AllocError>
-    ensures { OnOk result (out.new.items ≡ out.old.items ++ pair_bytes name.now (decimal value)) }
+/// A name and the number of a revision.
+pub(crate) fn push_rev_pair(out: &mut Vec<u8>, name: &[u8], rev: Rev) -> Result<(), AllocError>
+    ensures { OnOk result (out.new.items ≡ out.old.items ++ pair_bytes name.now (decimal rev)) }
 {
     let mut buffer = Buffer::new();
-    push_pair(out, name, buffer.format(value).as_bytes())
+    push_pair(out, name, buffer.format(rev.0).as_bytes())
 }
 
 /// A name and a value that may be known.
