@@ -22,6 +22,9 @@ no_mechanism = codes "( success ( ( ) 0: ) ) "
 
 -- ---- their parts
 
+abbrev pub listed : List ℕ → List ℕ
+listed bytes = codes "( " ++ (bytes ++ codes ") ")
+
 abbrev pub bool_bytes : Bool → List ℕ
 bool_bytes true = word_bytes (codes "true")
 bool_bytes false = word_bytes (codes "false")

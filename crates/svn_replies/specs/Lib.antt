@@ -16,3 +16,13 @@ pub mod CommandFields
 pub mod NodeBytes
 -- what is answered to commands
 pub mod Commands
+-- what the code holds of what is asked for
+pub mod Asking
+-- where nodes were in earlier revisions
+pub mod Segments
+-- what is answered to get-locations and get-location-segments
+pub mod Locations
+-- the commands of which no report follows
+pub mod Replies
+-- where a client is that names a URL
+pub mod Sessions

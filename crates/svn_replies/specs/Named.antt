@@ -3,6 +3,7 @@
 --     node_in h r p, node_of_kind h kind r p      the node at path p of revision r
 --     url_named root url      the path in the repository, whose URL is `root`, of a URL
 --     path_in at text      the path in the repository of a text, for a client that is in the directory `at`
+--     place_named h at text number      the revision and the path that are named
 use Rattle.std.specs.Prelude.{ℕ, ◌+◌, ◌-◌, Bool, true, false, List, [], ◌∷◌, ◌++◌, length, nat_eq, nat_le, Option, Some, None, option_map, Result, Ok, Err, if◌then◌else◌}
 use Rattle.std.specs.Str.{is_utf8}
 use Rattle.svn_types.specs.declared.fault.PathFault.{PathFault}
@@ -51,6 +52,12 @@ unfoldable pub path_in : Path → List ℕ → Result Path Reason
 path_in at text = do
   below ← path_named text
   joined at below
+
+unfoldable pub place_named : History → Path → List ℕ → Option ℕ → Result (ℕ × Path) Reason
+place_named h at text number = do
+  r ← named_rev h number
+  p ← path_in at text
+  Ok (r, p)
 
 -- ---- URLs
 

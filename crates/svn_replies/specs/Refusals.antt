@@ -2,6 +2,7 @@
 --     Reason      the code of a failure, as the client is told it; or fields that aren't those of the command
 --     Gives view result read      the result is what reading gives, unless memory ran out
 --     Answers old result new said      what is said is written, unless memory ran out
+--     Says is_said old result new read      what may be said of what is read is written, unless memory ran out
 use Rattle.std.specs.Prelude.{◌≡◌, ℕ, List, ◌++◌, Option, Some, None, Result, Ok, Err}
 use Rattle.svn_types.specs.declared.fault.PathFault.{PathFault}
 use Rattle.svn_types.specs.declared.fault.PathFault.TheVariants as paths
@@ -56,6 +57,10 @@ Gives view (Err e) read = Fails e read
 abbrev pub Answers : List ℕ → Result (Unit {0}) Refused → List ℕ → Result (List ℕ) Reason → Type 0
 Answers old (Ok x) new said = (bytes : List ℕ) × (said ≡ Ok bytes) × (new ≡ old ++ bytes)
 Answers old (Err e) new said = Fails e said
+
+abbrev pub Says : {X : Type 0} → (X → List ℕ → Type 0) → List ℕ → Result (Unit {0}) Refused → List ℕ → Result X Reason → Type 0
+Says {X} IsSaid old (Ok done) new read = (x : X) × (bytes : List ℕ) × (read ≡ Ok x) × IsSaid x bytes × (new ≡ old ++ bytes)
+Says IsSaid old (Err e) new read = Fails e read
 
 -- a refusal as it is written; where it isn't, nothing is answered
 abbrev pub IsTold : Refused → List ℕ → List ℕ → Type 0

@@ -1,8 +1,8 @@
 //! What a revision changed, path by path.
 
 use crate::fault::Refused;
-use crate::history::Place;
 use crate::served::Served;
+use crate::session::Place;
 use std::alloc::{AllocError, Global};
 use svn_repo::NodeId;
 use svn_types::{Kind, RelPath, Rev};

@@ -13,15 +13,19 @@
 //! that aren't those of the command; or memory that ran out.
 //!
 //! Files: `commands` has the commands by their names; `fields` takes their fields apart, `session` what paths, URLs and revisions name, `served` what is read
-//! of a repository. `answers` is about one node or one revision, `log`, `changes`, `locations` and `history` about where nodes were, and what revisions
-//! changed. `writing` writes what answers are made of, `fault` says why a command fails.
+//! of a repository. `answers` is about one node, with `nodes` what is told of it, and `revisions` about one revision; `log`, `changes`, `locations` and
+//! `history` are about where nodes were, and what revisions changed. `writing` writes what answers are made of, `fault` says why a command fails.
 //!
-//! To add a command: its name in `is_known`, an arm of `answer_plain`, its fields, and a definition of its answer in `specs/Commands.antt`.
+//! To add a command: a variant of `Command` and its name, an arm of `answer`, its fields, and a definition of its answer, with a line of `IsAnswer`.
 //!
-//! Promises: the answers to `get-latest-rev`, `check-path`, `rev-prop` and `rev-proplist` are those of `specs/Commands.antt`, or why there is none, in the
-//! order in which fields are read. What is said of a node is its last change ([`Served::entered`]: `IsChangeOrNone` of `specs/LastChanges.antt`). What paths,
-//! URLs and revisions name is in `specs/Named.antt`. What the other commands answer isn't stated, but for the parts in `specs/Answers.antt` and
-//! `specs/NodeBytes.antt`.
+//! Promises: [`reply`] answers each command by its name as `Replies` of `specs/Replies.antt` says, or tells why not, in the order in which fields are read.
+//! `check-path`, `get-dated-rev`, `get-iprops`, `get-latest-rev`, `rev-prop` and `rev-proplist` have one answer; so have `stat`, `get-file` and `get-dir`, but
+//! for the last change of each node, which is `IsChange` of `specs/LastChanges.antt` ([`Served::entered`]); these are in `specs/Commands.antt`. The answers to
+//! `get-locations` and `get-location-segments` are those of `specs/Locations.antt`, by the copies that the dump tells of (`specs/Segments.antt`). What paths,
+//! URLs and revisions name is in `specs/Named.antt`.
+//!
+//! Nothing is stated of what `log` answers, of which URLs a session is opened for ([`Session::open`] says where the client is then), and of the words of
+//! failures.
 #![tactic(auto)]
 
 mod answers;
@@ -32,11 +36,13 @@ mod fields;
 mod history;
 mod locations;
 mod log;
+mod nodes;
+mod revisions;
 mod served;
 mod session;
 mod writing;
 
-pub use commands::{Replied, reply};
+pub use commands::{Command, Replied, reply};
 pub use fault::{Failure, Refused, code};
 pub use served::{Revisions, Served};
 pub use session::{Session, View, failed, read_path};

@@ -2,7 +2,8 @@
 
 ghost use Rattle.std.specs.Prelude.{◌≡◌, Some, IfOk};
 ghost use Rattle.svn_replies.specs.Refusals.{Gives, refusal_code};
-ghost use Rattle.svn_replies.specs.Named.{after_slash, path_named, path_in, url_named, known_rev, named_rev, node_in, node_of_kind};
+ghost use Rattle.svn_replies.specs.Sessions.{IsOpened};
+ghost use Rattle.svn_replies.specs.Named.{after_slash, path_named, path_in, place_named, url_named, known_rev, named_rev, node_in, node_of_kind};
 
 use crate::fault::{Failure, Refused, code};
 use crate::served::Served;
@@ -18,6 +19,13 @@ pub struct Session {
     pub url: Text,
     /// The path.
     pub at: RelPath,
+}
+
+/// A path of a revision.
+#[derive(Debug, Drop)]
+pub(crate) struct Place {
+    pub(crate) rev: Rev,
+    pub(crate) path: RelPath,
 }
 
 /// What is served to a client.
@@ -104,8 +112,10 @@ fn path_of(alloc: Global, root: &[u8], url: &[u8]) -> Result<RelPath, Refused>
 }
 
 impl Session {
-    /// The session of a client that names this URL.
-    pub fn open(alloc: Global, served: &Served, url: &[u8]) -> Result<Session, Refused> {
+    /// The session of a client that names this URL: it is below that of the repository, which is a scheme, a host and where the repository is there.
+    pub fn open(alloc: Global, served: &Served, url: &[u8]) -> Result<Session, Refused>
+        ensures { IfOk result (IsOpened served.now.root url.now) }
+    {
         let Some(host) = host_of(url) else {
             return Err(elsewhere(alloc)?);
         };
@@ -170,6 +180,16 @@ impl View<'_> {
             Some(number) => self.known(Rev(number)),
             None => Ok(self.served.repo.latest()),
         }
+    }
+
+    /// The revision and the path that are named.
+    #[tactic(auto, unfolding(crate::specs::Named::place_named))]
+    pub(crate) fn place(&self, path: &[u8], rev: Option<u64>) -> Result<Place, Refused>
+        ensures { Gives (λ place. (place.rev, place.path)) result (place_named self.now.served.now.repo self.now.session.now.at path.now rev) }
+    {
+        let rev = self.rev(rev)?;
+        let path = self.path(path)?;
+        Ok(Place { rev, path })
     }
 
     /// The node at a path.

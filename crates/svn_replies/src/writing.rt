@@ -1,5 +1,5 @@
 //! Answers, and their parts.
-ghost use Rattle.std.specs.Prelude.{◌≡◌, ◌++◌, ◌∷◌, [], codes, OnOk};
+ghost use Rattle.std.specs.Prelude.{◌≡◌, ◌++◌, ◌∷◌, [], Some, codes, OnOk};
 ghost use Rattle.std.specs.List.{flat_map};
 ghost use Rattle.std.specs.Fmt.{decimal};
 ghost use Rattle.std.specs.Option.{option_copied};
@@ -43,6 +43,7 @@ pub fn push_end(out: &mut Vec<u8>) -> Result<(), AllocError>
 }
 
 /// The answer without results.
+#[tactic(auto, unfolding(crate::specs::Answers::success))]
 pub fn push_done(out: &mut Vec<u8>) -> Result<(), AllocError>
     ensures { OnOk result (out.new.items ≡ out.old.items ++ success []) }
 {
@@ -58,6 +59,7 @@ pub fn push_no_mechanism(out: &mut Vec<u8>) -> Result<(), AllocError>
 }
 
 /// Why a command fails.
+#[tactic(auto, unfolding(crate::specs::Answers::failure))]
 pub fn push_failure(out: &mut Vec<u8>, told: &Failure) -> Result<(), AllocError>
     ensures { OnOk result (out.new.items ≡ out.old.items ++ failure told.now.code told.now.message) }
 {
@@ -76,7 +78,11 @@ pub(crate) fn push_rev(out: &mut Vec<u8>, rev: Rev) -> Result<(), AllocError>
 pub(crate) fn push_bool(out: &mut Vec<u8>, value: bool) -> Result<(), AllocError>
     ensures { OnOk result (out.new.items ≡ out.old.items ++ bool_bytes value) }
 {
-    push_word(out, if value { b"true" } else { b"false" })
+    if value {
+        push_word(out, b"true")
+    } else {
+        push_word(out, b"false")
+    }
 }
 
 /// The kind of a node, or that none is there.
@@ -90,18 +96,27 @@ pub(crate) fn push_kind(out: &mut Vec<u8>, kind: Option<Kind>) -> Result<(), All
     }
 }
 
+/// A list of one string.
+pub(crate) fn push_some(out: &mut Vec<u8>, value: &[u8]) -> Result<(), AllocError>
+    ensures { OnOk result (out.new.items ≡ out.old.items ++ optional (Some value.now)) }
+{
+    push_open(out)?;
+    push_text(out, value)?;
+    push_close(out)
+}
+
 /// A list of one string or none.
 pub(crate) fn push_optional(out: &mut Vec<u8>, value: Option<&Text>) -> Result<(), AllocError>
     ensures { OnOk result (out.new.items ≡ out.old.items ++ optional (option_copied value.entry)) }
 {
-    push_open(out)?;
-    if let Some(value) = value {
-        push_text(out, value.as_slice())?;
+    match value {
+        Some(value) => push_some(out, value.as_slice()),
+        None => out.extend_from_slice(b"( ) "),
     }
-    push_close(out)
 }
 
 /// A name and a value.
+#[tactic(auto, unfolding(crate::specs::Answers::pair_bytes))]
 pub(crate) fn push_pair(out: &mut Vec<u8>, name: &[u8], value: &[u8]) -> Result<(), AllocError>
     ensures { OnOk result (out.new.items ≡ out.old.items ++ pair_bytes name.now value.now) }
 {
@@ -111,12 +126,12 @@ pub(crate) fn push_pair(out: &mut Vec<u8>, name: &[u8], value: &[u8]) -> Result<
     push_close(out)
 }
 
-/// A name and a value that is a number.
-pub(crate) fn push_number_pair(out: &mut Vec<u8>, name: &[u8], value: u64) -> Result<(), AllocError>
-    ensures { OnOk result (out.new.items ≡ out.old.items ++ pair_bytes name.now (decimal value)) }
+/// A name and the number of a revision.
+pub(crate) fn push_rev_pair(out: &mut Vec<u8>, name: &[u8], rev: Rev) -> Result<(), AllocError>
+    ensures { OnOk result (out.new.items ≡ out.old.items ++ pair_bytes name.now (decimal rev)) }
 {
     let mut buffer = Buffer::new();
-    push_pair(out, name, buffer.format(value).as_bytes())
+    push_pair(out, name, buffer.format(rev.0).as_bytes())
 }
 
 /// A name and a value that may be known.
@@ -153,16 +168,34 @@ fn push_below(text: &mut Vec<u8>, names: &[Name]) -> Result<(), AllocError>
     Ok(())
 }
 
+// The names of a path with a slash between them.
+fn push_names(text: &mut Vec<u8>, path: &RelPath) -> Result<(), AllocError>
+    ensures { OnOk result (text.new.items ≡ text.old.items ++ path_text path.now) }
+{
+    let Some((first, rest)) = path.components().split_first() else {
+        return Ok(());
+    };
+    text.extend_from_slice(first.as_str().as_bytes())?;
+    push_below(text, rest)
+}
+
 /// A path as a string, with a slash between names.
 pub(crate) fn push_path(out: &mut Vec<u8>, path: &RelPath) -> Result<(), AllocError>
     ensures { OnOk result (out.new.items ≡ out.old.items ++ text_bytes (path_text path.now)) }
 {
     let mut text = Vec::new(*out.allocator());
-    if let Some((first, rest)) = path.components().split_first() {
-        text.extend_from_slice(first.as_str().as_bytes())?;
-        push_below(&mut text, rest)?;
-    }
+    push_names(&mut text, path)?;
     push_text(out, &text)
+}
+
+// A slash before each name of a path; of the root a slash.
+fn push_whole_names(text: &mut Vec<u8>, path: &RelPath) -> Result<(), AllocError>
+    ensures { OnOk result (text.new.items ≡ text.old.items ++ whole_path path.now) }
+{
+    match path.components() {
+        [] => Ok(text.push(b'/')?),
+        names => push_below(text, names),
+    }
 }
 
 /// A path as a string, with a slash before each name; that of the root is a slash.
@@ -170,9 +203,6 @@ pub(crate) fn push_whole_path(out: &mut Vec<u8>, path: &RelPath) -> Result<(), A
     ensures { OnOk result (out.new.items ≡ out.old.items ++ text_bytes (whole_path path.now)) }
 {
     let mut text = Vec::new(*out.allocator());
-    push_below(&mut text, path.components())?;
-    if text.is_empty() {
-        text.push(b'/')?;
-    }
+    push_whole_names(&mut text, path)?;
     push_text(out, &text)
 }
