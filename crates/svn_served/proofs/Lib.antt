@@ -6,13 +6,13 @@ pub mod Drives
 pub mod ReportRuns
 -- what is written to a client, by the bytes that it sends
 pub mod Serving
--- commands that a report follows
+-- what comes of a command that is answered at once
 pub mod Answering
 -- what is read step by step
 pub mod Refusing
 -- what a drive is asked for, as it is read
 pub mod Wantings
--- a report as it is read
+-- a report that can't be served
 pub mod Reported
--- how a client is let in
+-- what is written part by part
 pub mod Greetings

@@ -1,5 +1,5 @@
 -- What is read step by step, and what a step that fails makes of it.
-use Rattle.std.proofs.Common.{◌≡◌, ℕ, Option, Some, Result, Err, refl}
+use Rattle.std.proofs.Common.{◌≡◌, ℕ, Some, Result, Err, refl}
 use Rattle.std.specs.Prelude.{IsErr, IsErrAnd}
 use Rattle.std.proofs.lemmas.Result.{err_from_is_err_and}
 use Rattle.svn_replies.specs.declared.fault.Refused.{Refused}

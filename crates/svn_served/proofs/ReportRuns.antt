@@ -15,12 +15,12 @@ use Rattle.svn_served.specs.declared.reporting.Reporting.{Reporting}
 use Rattle.svn_replies.specs.declared.served.Served.{Served}
 use Rattle.svn_replies.specs.declared.session.Session.{Session}
 use Rattle.svn_served.specs.declared.wanted.Wanted.{Wanted}
-use Rattle.svn_replies.specs.Answers.{success, failure, no_mechanism}
+use Rattle.svn_replies.specs.Answers.{failure, no_mechanism}
 use Rattle.svn_served.specs.Drives.{wanted_drive, IsDrive}
 use Rattle.svn_replies.specs.Refusals.{Reason, malformed, as_read, Fails, Gives, IsTold}
-use Rattle.svn_served.specs.Reports.{step, reported, after_drive, Ends, ReportsBy, IsReportAnswer}
+use Rattle.svn_served.specs.Reports.{step, reported, Ends, ReportsBy, IsReportAnswer}
 use Rattle.svn_served.specs.Connection.{Runs, is_last_named, is_inner_named, is_last, AreInner, step_by, steps, ReportsAreDriven}
-use Rattle.svn_served.proofs.Greetings.{chosen, other}
+use Rattle.svn_served.proofs.Greetings.{other}
 
 -- neither of two tests holds
 third : (P Q R : Type 0) (x y : Bool) → (not x && not y) ≡ true → MatchBool x P (MatchBool y Q R) → R
@@ -112,16 +112,6 @@ module _ (s : Served) (session : Session) (state : Result Reporting Refused) (c 
     (is : Some (name, fields) ≡ c) where
   reports_so : (after : Phase) (bytes : List ℕ) → ReportsBy s session state (Some (name, fields)) after bytes → ReportsBy s session state c after bytes
   reports_so after bytes h = subst (λ (x : Option (List ℕ × List Token)). ReportsBy s session state x after bytes) is h
-
-  pub reports_end : bytes_eq name (codes "finish-report") ≡ true → (driven : Driven) (after : Phase) (bytes : List ℕ)
-      → IsReportAnswer s (reported s.repo (as_read state)) driven bytes → after ≡ after_drive session driven → ReportsBy s session state c after bytes
-  reports_end last driven after bytes h next = reports_so after bytes (chosen (bytes_eq name (codes "finish-report")) _ _ last (driven, h, next))
-
-  pub gives_up : bytes_eq name (codes "finish-report") ≡ false → bytes_eq name (codes "abort-report") ≡ true
-      → ReportsBy s session state c (phases.Ready session) (success [])
-  gives_up inner aborts =
-      reports_so (phases.Ready session) (success [])
-      (other (bytes_eq name (codes "finish-report")) _ _ inner (chosen (bytes_eq name (codes "abort-report")) _ _ aborts (refl, refl)))
 
   pub goes_on : bytes_eq name (codes "finish-report") ≡ false → bytes_eq name (codes "abort-report") ≡ false → (next : Result Reporting Refused)
       → Gives (λ r. r) next (step s.repo session (as_read state) name fields) → ReportsBy s session state c (phases.Reporting session next) []

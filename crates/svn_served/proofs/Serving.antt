@@ -187,12 +187,6 @@ module _ (s : Served) where
       done_or (inl over) = inl over
       done_or (inr end) = inr (ap (λ (l : List ℕ). items_in (with_bytes left l)) end.1 ∙ with_none left ∙ end.0)
 
-  -- what was flushed is what was written
-  pub flushed : (input a b c : Option (List ℕ)) → IfSome input (λ came. (written : List ℕ) × IsServed s came written × Appends a b written) → Keeps b c
-      → IfSome input (λ came. (written : List ℕ) × IsServed s came written × Appends a c written)
-  flushed None a b c h kept = tt
-  flushed (Some came) a b c h kept = (h.0, h.1, Appends-kept a b c h.0 h.2 kept)
-
   -- a whole connection
   pub is_served : (after : Phase) (left : Waiting) (input input' begun greeted output : Option (List ℕ)) → Appends begun greeted GREETING.now
       → Goes s Greeted (fresh CLIENT_LIMITS []) after left input input' greeted output → IsDone after left input'

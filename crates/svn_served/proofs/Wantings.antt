@@ -1,5 +1,5 @@
 -- What a drive is asked for, as it is read.
-use Rattle.std.proofs.Common.{◌≡◌, ℕ, List, Option, None}
+use Rattle.std.proofs.Common.{ℕ, List, Option, None}
 use Rattle.svn_replies.specs.declared.fault.Refused.{Refused}
 use Rattle.svn_replies.specs.declared.served.Served.{Served}
 use Rattle.svn_replies.specs.declared.session.Session.{Session}

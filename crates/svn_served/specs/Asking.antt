@@ -1,12 +1,12 @@
 -- Commands that a report follows.
 --     IsWanted s session asked wanted      the result is what is asked for, unless memory ran out
---     AnswersBy s session driving fields answered old new      before a report no mechanism is asked for, and nothing else is written
+--     AnswersBy s session driving name fields answered old new      before a report no mechanism is asked for, and nothing else is written
 use Rattle.std.specs.Prelude.{◌≡◌, ℕ, Bool, true, false, List, [], ◌∷◌, ◌++◌, Option, Some, None, IfSome, Result, Ok, Err}
 use Rattle.std.specs.Option.{option_copied}
 use Rattle.svn_repo.specs.History.{look}
 use Rattle.svn_wire.specs.declared.token.Token.{Token}
 use Rattle.svn_served.specs.declared.commands.Answered.{Answered}
-use Rattle.svn_served.specs.declared.commands.Answered.TheVariants.{Done, At, Wants}
+use Rattle.svn_served.specs.declared.commands.Answered.TheVariants.{Replied, Wants}
 use Rattle.svn_replies.specs.declared.fault.Refused.{Refused}
 use Rattle.svn_replies.specs.declared.fault.Refused.TheVariants as refused
 use Rattle.svn_served.specs.declared.reporting.Reporting.{Reporting}
@@ -19,6 +19,7 @@ use Rattle.svn_replies.specs.Answers.{no_mechanism}
 use Rattle.svn_served.specs.AskedFields.{Asked, asked_by}
 use Rattle.svn_replies.specs.Named.{named_rev}
 use Rattle.svn_replies.specs.Refusals.{Gives}
+use Rattle.svn_replies.specs.Replies.{Replies}
 use Rattle.svn_served.specs.Reporting.{begun}
 use Rattle.svn_served.specs.Wanting.{wanted_of}
 
@@ -43,9 +44,10 @@ IsUntold (refused.Failed failure) = ⊥
 IsUntold _ = Unit {0}
 
 -- no report follows
-abbrev pub IsReply : Result Answered Refused → Type 0
-IsReply (Ok (Wants wanted)) = ⊥
-IsReply _ = Unit {0}
+abbrev pub IsReply : Served → Session → List ℕ → List Token → Result Answered Refused → List ℕ → List ℕ → Type 0
+IsReply s session name fields (Ok (Replied reply)) old new = Replies s session name fields (Ok reply) old new
+IsReply s session name fields (Ok (Wants wanted)) old new = ⊥
+IsReply s session name fields (Err e) old new = Replies s session name fields (Err e) old new
 
 -- the fields aren't those of the command
 abbrev pub is_malformed : Result Wanted Refused → Bool
@@ -60,10 +62,9 @@ Follows (Err e) state = state ≡ Err e
 -- what is answered to such a command: nothing else yet
 abbrev pub Asks : Served → Session → Option Asked → Result Answered Refused → List ℕ → List ℕ → Type 0
 Asks s session asked (Ok (Wants wanted)) old new = IsWantedBy s session asked wanted × (is_malformed wanted ≡ false) × (new ≡ old ++ no_mechanism)
-Asks s session asked (Ok Done) old new = ⊥
-Asks s session asked (Ok (At path)) old new = ⊥
+Asks s session asked (Ok (Replied reply)) old new = ⊥
 Asks s session asked (Err e) old new = IsUntold e
 
-abbrev pub AnswersBy : Served → Session → Option Driving → List Token → Result Answered Refused → List ℕ → List ℕ → Type 0
-AnswersBy s session (Some driving) fields answered old new = Asks s session (asked_by driving fields) answered old new
-AnswersBy s session None fields answered old new = IsReply answered
+abbrev pub AnswersBy : Served → Session → Option Driving → List ℕ → List Token → Result Answered Refused → List ℕ → List ℕ → Type 0
+AnswersBy s session (Some driving) name fields answered old new = Asks s session (asked_by driving fields) answered old new
+AnswersBy s session None name fields answered old new = IsReply s session name fields answered old new

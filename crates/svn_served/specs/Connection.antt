@@ -2,8 +2,7 @@
 --     Takes s phase item after bytes      the same of one item
 --     Runs s phase items after bytes      of items one after another
 --     ReportsAreDriven      what is written after a report is the image of the drive of that report, or why there is none
-use Rattle.std.specs.Prelude.{◌≡◌, ◌≢◌, ◌⊎◌, ℕ, Bool, true, false, ◌&&◌, not, List, [], ◌∷◌, ◌++◌, codes, bytes_eq, Option, Some, None, Result, if◌then◌else◌, MatchBool}
-use Rattle.svn_types.specs.Names.{Path}
+use Rattle.std.specs.Prelude.{◌≡◌, ◌≢◌, ◌⊎◌, ℕ, Bool, true, false, ◌&&◌, not, List, [], ◌∷◌, ◌++◌, codes, bytes_eq, Option, Some, None, Result, Ok, Err, if◌then◌else◌, MatchBool}
 use Rattle.svn_repo.specs.History.{History}
 use Rattle.svn_wire.specs.declared.token.Token.{Token}
 use Rattle.svn_wire.specs.Answers.{failure_of}
@@ -11,6 +10,8 @@ use Rattle.svn_wire.specs.Fields.{◌>>=◌, command_of, list_field, number_fiel
 use Rattle.svn_wire.specs.Writing.{text_bytes}
 use Rattle.svn_served.specs.declared.connection.Phase.{Phase}
 use Rattle.svn_served.specs.declared.connection.Phase.TheVariants as phases
+use Rattle.svn_replies.specs.declared.commands.Replied.{Replied}
+use Rattle.svn_replies.specs.declared.commands.Replied.TheVariants as replied
 use Rattle.svn_replies.specs.declared.fault.Refused.{Refused}
 use Rattle.svn_served.specs.declared.reporting.Reporting.{Reporting}
 use Rattle.svn_replies.specs.declared.served.Served.{Served}
@@ -19,7 +20,9 @@ use Rattle.svn_served.specs.declared.wanted.Driving.{Driving}
 use Rattle.svn_replies.specs.Answers.{success, failure, no_mechanism}
 use Rattle.svn_served.specs.AskedFields.{Asked, asked_by}
 use Rattle.svn_served.specs.Asking.{IsFree}
-use Rattle.svn_replies.specs.Refusals.{Reason, as_read, Gives, reasons}
+use Rattle.svn_replies.specs.Refusals.{Reason, as_read, Gives, reasons, IsTold}
+use Rattle.svn_replies.specs.Replies.{Replies}
+use Rattle.svn_replies.specs.Sessions.{IsOpened}
 use Rattle.svn_served.specs.Reporting.{begun}
 use Rattle.svn_served.specs.Wanting.{driving_of, wanted_of}
 use Rattle.svn_served.specs.Reports.{step, reported, Ends, Reports}
@@ -46,15 +49,15 @@ abbrev pub mechanisms : List ℕ → List ℕ
 mechanisms uuid = codes "( success ( ( ANONYMOUS EXTERNAL ) " ++ (text_bytes uuid ++ codes ") ) ")
 
 -- a client that names a repository that is here gets these, another one a failure
-abbrev pub Offers : Served → Phase → List ℕ → Type 0
-Offers s after bytes =
-    ((session : Session) × (after ≡ phases.Named session) × (bytes ≡ mechanisms s.uuid))
+abbrev pub Offers : Served → List ℕ → Phase → List ℕ → Type 0
+Offers s url after bytes =
+    ((session : Session) × IsOpened s.root url session × (after ≡ phases.Named session) × (bytes ≡ mechanisms s.uuid))
     ⊎ ((code : ℕ) × (message : List ℕ) × (after ≡ phases.Over) × (bytes ≡ failure code message))
 
 -- one of another version is sent away
 abbrev pub GreetsBy : Served → Option (ℕ × List ℕ) → Phase → List ℕ → Type 0
 GreetsBy s None after bytes = ⊥
-GreetsBy s (Some x) after bytes = ((x.0 ≢ 2) × (after ≡ phases.Over) × (bytes ≡ [])) ⊎ ((x.0 ≡ 2) × Offers s after bytes)
+GreetsBy s (Some x) after bytes = ((x.0 ≢ 2) × (after ≡ phases.Over) × (bytes ≡ [])) ⊎ ((x.0 ≡ 2) × Offers s x.1 after bytes)
 
 abbrev pub is_admitted : List ℕ → Bool
 is_admitted mechanism = if bytes_eq mechanism (codes "ANONYMOUS") then true else bytes_eq mechanism (codes "EXTERNAL")
@@ -78,17 +81,27 @@ Asks s session (Some asked) after bytes =
     × ((state : Result Reporting Refused) × Gives (λ r. r) state (reasons (wanted_of s session free asked) begun)
     × (after ≡ phases.Reporting session state) × (bytes ≡ no_mechanism))
 
--- it is answered, and the client may be in another directory then
-abbrev pub Replies : Session → Phase → Type 0
-Replies session after = (at : Path) × (after ≡ phases.Ready (record { url = session.url; at = at }))
+-- no report follows, and the client may be in another directory then
+abbrev pub after_reply : Session → Replied → Phase
+after_reply session replied.Stays = phases.Ready session
+after_reply session (replied.Goes path) = phases.Ready (record { url = session.url; at = path })
 
-abbrev pub AnswersOf : Served → Session → Option Driving → List Token → Phase → List ℕ → Type 0
-AnswersOf s session (Some driving) fields after bytes = Asks s session (asked_by driving fields) after bytes
-AnswersOf s session None fields after bytes = Replies session after
+-- it is answered by success; or why it isn't is told after what was written before
+abbrev pub Concludes : Session → Result Replied Refused → List ℕ → Phase → List ℕ → Type 0
+Concludes session (Ok reply) written after bytes = (after ≡ after_reply session reply) × (bytes ≡ written)
+Concludes session (Err e) written after bytes = (after ≡ phases.Ready session) × IsTold e written bytes
+
+abbrev pub IsAnswered : Served → Session → List ℕ → List Token → Phase → List ℕ → Type 0
+IsAnswered s session name fields after bytes =
+    (result : Result Replied Refused) × (written : List ℕ) × Replies s session name fields result [] written × Concludes session result written after bytes
+
+abbrev pub AnswersOf : Served → Session → Option Driving → List ℕ → List Token → Phase → List ℕ → Type 0
+AnswersOf s session (Some driving) name fields after bytes = Asks s session (asked_by driving fields) after bytes
+AnswersOf s session None name fields after bytes = IsAnswered s session name fields after bytes
 
 abbrev pub Answers : Served → Session → Option (List ℕ × List Token) → Phase → List ℕ → Type 0
 Answers s session None after bytes = ⊥
-Answers s session (Some command) after bytes = AnswersOf s session (driving_of command.0) command.1 after bytes
+Answers s session (Some command) after bytes = AnswersOf s session (driving_of command.0) command.0 command.1 after bytes
 
 -- ---- the client's word on a drive: its failure is sent back
 

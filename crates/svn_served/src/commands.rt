@@ -6,16 +6,13 @@ ghost use Rattle.svn_served.specs.Wanting.{driving_of};
 
 use crate::wanted::{Driving, Wanted, driving_of, read_wanted};
 use svn_replies::{Refused, Replied, View, push_no_mechanism, reply};
-use svn_types::RelPath;
 use svn_wire::Token;
 
 /// What comes of a command that doesn't fail.
 #[derive(Drop)]
 pub(crate) enum Answered {
     /// It is answered.
-    Done,
-    /// So it is, and the client is in this directory then.
-    At(RelPath),
+    Replied(Replied),
     /// A report follows. Why it can't be served is told at its end.
     Wants(Result<Wanted, Refused>),
 }
@@ -51,11 +48,11 @@ fn answer_other(
     fields: &[Token],
     out: &mut Vec<u8>,
 ) -> Result<Answered, Refused>
-    ensures { IsReply result }
+    ensures { IsReply view.entry.served.now view.entry.session.now name.now fields.now result out.old.items out.new.items }
 {
-    match reply(view, name, fields, out)? {
-        Replied::Stays => Ok(Answered::Done),
-        Replied::Goes(path) => Ok(Answered::At(path)),
+    match reply(view, name, fields, out) {
+        Ok(replied) => Ok(Answered::Replied(replied)),
+        Err(refused) => Err(refused),
     }
 }
 
@@ -66,7 +63,7 @@ pub(crate) fn answer_command(
     fields: &[Token],
     out: &mut Vec<u8>,
 ) -> Result<Answered, Refused>
-    ensures { AnswersBy view.entry.served.now view.entry.session.now (driving_of name.now) fields.now result out.old.items out.new.items }
+    ensures { AnswersBy view.entry.served.now view.entry.session.now (driving_of name.now) name.now fields.now result out.old.items out.new.items }
 {
     match driving_of(name) {
         Some(driving) => drive(view, driving, fields, out),

@@ -5,7 +5,7 @@ ghost use Rattle.svn_served.specs.declared.connection.Phase.TheVariants.{Over};
 ghost use Rattle.svn_wire.specs.Fields.{command_of};
 ghost use Rattle.svn_served.specs.Asking.{Follows};
 ghost use Rattle.svn_replies.specs.Refusals.{IsTold};
-ghost use Rattle.svn_served.specs.Connection.{sent_back, Answers, TookBy, TakesPlain, Takes};
+ghost use Rattle.svn_served.specs.Connection.{sent_back, after_reply, Answers, TookBy, TakesPlain, Takes};
 
 use crate::commands::{Answered, answer_command};
 use crate::fault::ServeFault;
@@ -15,7 +15,7 @@ use crate::reports::take_report;
 use crate::wanted::Wanted;
 use std::alloc::{AllocError, Global};
 use std::io::Write;
-use svn_replies::{Refused, Served, Session, View, push_done, push_failure};
+use svn_replies::{Refused, Replied, Served, Session, View, push_done, push_failure};
 use svn_types::RelPath;
 use svn_wire::{Token, command, push_number, push_text, read_failure};
 
@@ -84,6 +84,16 @@ fn moved(session: Session, at: RelPath) -> Session
     Session { url, at }
 }
 
+// What a client does after a command of which no report follows.
+fn after_reply(session: Session, replied: Replied) -> Phase
+    ensures { result ≡ after_reply session replied }
+{
+    match replied {
+        Replied::Stays => Phase::Ready(session),
+        Replied::Goes(path) => Phase::Ready(moved(session, path)),
+    }
+}
+
 // The answer to a command, where nothing is written before it.
 fn answer(
     alloc: Global,
@@ -104,8 +114,7 @@ fn answer(
         session: &session,
     };
     match answer_command(view, name, fields, out) {
-        Ok(Answered::Done) => Ok(Phase::Ready(session)),
-        Ok(Answered::At(path)) => Ok(Phase::Ready(moved(session, path))),
+        Ok(Answered::Replied(replied)) => Ok(after_reply(session, replied)),
         Ok(Answered::Wants(wanted)) => Ok(Phase::Reporting(session, reporting(alloc, wanted))),
         Err(refused) => {
             push_refused(out, refused)?;

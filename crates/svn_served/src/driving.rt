@@ -104,13 +104,7 @@ fn drive_view<W: Write>(
     ensures same_writer { view.new.editor.now.writer.ghost_name ≡ view.old.editor.now.writer.ghost_name }
 {
     calls_are_written(view.editor);
-    drive_request(
-        alloc,
-        &notes.served.repo,
-        notes.report,
-        notes.request,
-        view,
-    )
+    drive_request(alloc, &notes.served.repo, notes.report, notes.request, view)
 }
 
 // Makes the calls.

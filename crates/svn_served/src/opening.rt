@@ -5,9 +5,7 @@ ghost use Rattle.svn_served.specs.Connection.{url_of, mechanism_of, is_admitted,
 use crate::connection::{Phase, push_refused};
 use crate::fault::ServeFault;
 use std::alloc::{AllocError, Global};
-use svn_replies::{
-    Served, Session, push_close, push_done, push_end, push_open, push_success,
-};
+use svn_replies::{Served, Session, push_close, push_done, push_end, push_open, push_success};
 use svn_wire::{Token, list_field, number_field, push_text, text_field, word_field, word_list};
 
 /// What is served, and what it can do.

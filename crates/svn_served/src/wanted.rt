@@ -184,13 +184,7 @@ fn fields_of(driving: Driving, fields: &[Token]) -> Option<Asked<'_>>
 }
 
 // What is wanted, by its parts.
-fn wanted_with(
-    view: View<'_>,
-    aim: &Aim,
-    mode: Mode,
-    root: RelPath,
-    entry: Option<Entry>,
-) -> Wanted
+fn wanted_with(view: View<'_>, aim: &Aim, mode: Mode, root: RelPath, entry: Option<Entry>) -> Wanted
     ensures { result ≡ wanted_with view.entry.served.now aim.now mode root entry }
 {
     Wanted {
@@ -380,7 +374,11 @@ fn wanted_by(view: View<'_>, asked: &Asked<'_>) -> Result<Wanted, Refused>
 }
 
 /// What a command asks for.
-pub(crate) fn read_wanted(view: View<'_>, driving: Driving, fields: &[Token]) -> Result<Wanted, Refused>
+pub(crate) fn read_wanted(
+    view: View<'_>,
+    driving: Driving,
+    fields: &[Token],
+) -> Result<Wanted, Refused>
     ensures { IsWantedBy view.entry.served.now view.entry.session.now (asked_by driving fields.now) result }
 {
     let Some(asked) = fields_of(driving, fields) else {

@@ -1,4 +1,4 @@
-use Rattle.std.proofs.Common.{[], subst}
+use Rattle.std.proofs.Common.{subst}
 use Rattle.svn_lists.proofs.Results.{OnOk_from_both}
 use Rattle.svn_served.specs.declared.connection.Phase.TheVariants.{Greeted}
 use Rattle.svn_served.specs.Serving.{Goes}
