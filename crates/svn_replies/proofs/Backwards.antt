@@ -26,9 +26,9 @@ module _ (s : Served) (youngest : ℕ) (named : Path) (done : List Segment) (r f
       → AreSegments s youngest named (new ++ rest)
   more_segments mid new source from is put copied rest older =
       let joined = ap (λ (l : List Segment). l ++ rest) (put ∙ ap (λ (l : List Segment). l ++ gap source f) (with_here mid is))
-                   ∙ append_assoc (done ++ segment_here s r p ∷ []) (gap source f) rest
-                   ∙ append_assoc done (segment_here s r p ∷ []) (gap source f ++ rest)
-                   ∙ ap (λ k. done ++ segment_here s r p ∷ (gap source k ++ rest)) first in
+      ∙ append_assoc (done ++ segment_here s r p ∷ []) (gap source f) rest
+      ∙ append_assoc done (segment_here s r p ∷ []) (gap source f ++ rest)
+      ∙ ap (λ k. done ++ segment_here s r p ∷ (gap source k ++ rest)) first in
       subst (AreSegments s youngest named) (sym joined)
       (leads (segment_here s r p ∷ (gap source (first_here s r p) ++ rest))
       (goes_on (source, from) rest (ap (λ k. copied_from s k p) (sym first) ∙ copied) older))

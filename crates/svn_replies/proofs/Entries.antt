@@ -1,5 +1,5 @@
 -- Entries of a directory that are written one after another.
-use Rattle.std.proofs.Common.{◌≡◌, ℕ, List, [], ◌∷◌, ◌++◌, append_assoc, append-nil, refl, sym, subst}
+use Rattle.std.proofs.Common.{ℕ, List, [], ◌∷◌, ◌++◌, append_assoc, append-nil, refl, sym, subst}
 use Rattle.svn_types.specs.Names.{Path}
 use Rattle.svn_wire.specs.Writing.{text_bytes}
 use Rattle.svn_replies.specs.declared.served.Served.{Served}

@@ -1,7 +1,7 @@
 -- What is answered to get-locations and get-location-segments: items, then that they are all, and the answer; where the command fails there is no item.
 --     locations_of h at fields, AreLocations s asked bytes      where the node at a path of a revision is in others
 --     segments_of h at fields, AreSegmentsOf s asked bytes      the revisions in which it was at one path, from young to old
-use Rattle.std.specs.Prelude.{◌≡◌, ◌⊎◌, ℕ, max, min, Bool, true, false, ◌&&◌, List, [], ◌∷◌, ◌++◌, codes, is_some, nat_le, nat_lt, Option, Some, None, Result, Ok, Err, MatchBool, if◌then◌else◌}
+use Rattle.std.specs.Prelude.{◌≡◌, ◌⊎◌, ℕ, max, min, Bool, false, ◌&&◌, List, [], ◌∷◌, ◌++◌, codes, is_some, nat_le, nat_lt, Option, Some, None, Result, Ok, Err, MatchBool, if◌then◌else◌}
 use Rattle.std.specs.List.{flat_map}
 use Rattle.svn_types.specs.Names.{Path}
 use Rattle.svn_types.specs.Paths.{path_eq}

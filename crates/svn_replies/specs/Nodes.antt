@@ -1,7 +1,7 @@
 -- What is read of nodes.
 --     line_at h r p      the line of the node at path p of revision r
 --     has_props h n      whether node n has properties
-use Rattle.std.specs.Prelude.{ℕ, Bool, true, false, List, [], ◌∷◌, Option, Some, option_and_then}
+use Rattle.std.specs.Prelude.{ℕ, Bool, true, false, List, ◌∷◌, Option, Some, option_and_then}
 use Rattle.std.specs.Option.{option_map}
 use Rattle.svn_types.specs.Names.{Path}
 use Rattle.svn_repo.specs.History.{History, look, node_at}

@@ -124,7 +124,10 @@ impl Served {
         let Some(from) = source_path(alloc, copy, path)? else {
             return Ok(None);
         };
-        if !same_line(self.line_at(copy.source.rev, &from), self.line_at(rev, path)) {
+        if !same_line(
+            self.line_at(copy.source.rev, &from),
+            self.line_at(rev, path),
+        ) {
             return Ok(None);
         }
         Ok(Some(Place {

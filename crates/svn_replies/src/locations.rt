@@ -85,11 +85,7 @@ fn was_at(segments: &[Segment], rev: Rev, path: &RelPath) -> bool
     false
 }
 
-fn push_place_or_none(
-    out: &mut Vec<u8>,
-    rev: Rev,
-    path: &Option<RelPath>,
-) -> Result<(), AllocError>
+fn push_place_or_none(out: &mut Vec<u8>, rev: Rev, path: &Option<RelPath>) -> Result<(), AllocError>
     ensures { OnOk result (out.new.items ≡ out.old.items ++ place_or_none rev path.now) }
 {
     match path {
@@ -120,12 +116,7 @@ fn push_places(out: &mut Vec<u8>, rev: Rev, segments: &[Segment]) -> Result<(), 
 
 impl View<'_> {
     // Where a node is in a younger revision in which something is at its path.
-    fn push_there(
-        &self,
-        out: &mut Vec<u8>,
-        asked: &Asked<'_>,
-        rev: Rev,
-    ) -> Result<(), AllocError>
+    fn push_there(&self, out: &mut Vec<u8>, asked: &Asked<'_>, rev: Rev) -> Result<(), AllocError>
         ensures { OnOk result ((bytes : List ℕ) × IsThere self.now.served.now (asked_as asked.now) rev bytes × (out.new.items ≡ out.old.items ++ bytes)) }
     {
         let segments = self.served.segments(self.alloc, rev, &asked.path)?;
@@ -136,12 +127,7 @@ impl View<'_> {
         }
     }
 
-    fn push_younger(
-        &self,
-        out: &mut Vec<u8>,
-        asked: &Asked<'_>,
-        rev: Rev,
-    ) -> Result<(), AllocError>
+    fn push_younger(&self, out: &mut Vec<u8>, asked: &Asked<'_>, rev: Rev) -> Result<(), AllocError>
         ensures { OnOk result ((bytes : List ℕ) × IsYounger self.now.served.now (asked_as asked.now) rev bytes × (out.new.items ≡ out.old.items ++ bytes)) }
     {
         let repo = &self.served.repo;

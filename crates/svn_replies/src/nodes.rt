@@ -15,8 +15,8 @@ ghost use Rattle.svn_replies.specs.NodeBytes.{date_bytes, change_bytes, change_p
 
 use crate::session::{Place, View};
 use crate::writing::{
-    push_bool, push_close, push_done, push_kind, push_known_pair, push_rev_pair, push_open,
-    push_optional, push_pair, push_pairs, push_path, push_rev, push_some,
+    push_bool, push_close, push_done, push_kind, push_known_pair, push_open, push_optional,
+    push_pair, push_pairs, push_path, push_rev, push_rev_pair, push_some,
 };
 use std::alloc::{AllocError, Global};
 use svn_repo::NodeId;
@@ -204,12 +204,7 @@ impl View<'_> {
     }
 
     // The entries of a directory.
-    fn push_entries(
-        &self,
-        out: &mut Vec<u8>,
-        node: NodeId,
-        place: &Place,
-    ) -> Result<(), AllocError>
+    fn push_entries(&self, out: &mut Vec<u8>, node: NodeId, place: &Place) -> Result<(), AllocError>
         ensures { OnOk result ((bytes : List ℕ) × AreEntries self.now.served.now place.now.rev place.now.path (entries_of self.now.served.now.repo node) bytes × (out.new.items ≡ out.old.items ++ bytes)) }
     {
         let Some(entries) = self.served.repo.entries(node) else {
@@ -261,12 +256,7 @@ impl View<'_> {
     }
 
     // The properties of a directory with its path, if it has any.
-    fn push_inherited(
-        &self,
-        out: &mut Vec<u8>,
-        rev: Rev,
-        path: &RelPath,
-    ) -> Result<(), AllocError>
+    fn push_inherited(&self, out: &mut Vec<u8>, rev: Rev, path: &RelPath) -> Result<(), AllocError>
         ensures { OnOk result (out.new.items ≡ out.old.items ++ inherited_pairs path.now (props_at self.now.served.now.repo rev path.now)) }
     {
         let Some(props) = self.props_at(rev, path) else {
@@ -296,11 +286,7 @@ impl View<'_> {
 }
 
 // A path, and names and values.
-fn push_path_and_pairs(
-    out: &mut Vec<u8>,
-    path: &RelPath,
-    props: &Props,
-) -> Result<(), AllocError>
+fn push_path_and_pairs(out: &mut Vec<u8>, path: &RelPath, props: &Props) -> Result<(), AllocError>
     ensures { OnOk result (out.new.items ≡ out.old.items ++ listed (text_bytes (path_text path.now) ++ listed (pairs_bytes (Some props.now)))) }
 {
     push_open(out)?;

@@ -1,11 +1,8 @@
-use Rattle.std.proofs.Common.{◌≡◌, ℕ, ◌++◌, Option, None, Some, ap, sym, ◌∙◌}
+use Rattle.std.proofs.Common.{◌≡◌, ap, sym, ◌∙◌}
 use Rattle.std.specs.Prelude.{option_map}
-use Rattle.svn_types.specs.Names.{Path}
 use Rattle.svn_replies.specs.declared.session.Place.{Place}
-use Rattle.svn_replies.specs.Segments.{copied_from}
 use Rattle.svn_replies.proofs.Backwards.{all_segments, more_segments}
 use Rattle.svn_replies.proofs.served.Served.segments.Goals as goal
-
 
 pub returns-in-None : goal.returns-in-None
 returns-in-None c =

@@ -1,4 +1,4 @@
-use Rattle.std.proofs.Common.{◌≡◌, ◌++◌, List}
+use Rattle.std.proofs.Common.{◌++◌, List}
 use Rattle.svn_replies.specs.declared.history.Segment.{Segment}
 use Rattle.svn_replies.specs.Segments.{AreSegments}
 use Rattle.svn_replies.proofs.served.Served.segments.Given as goal
