@@ -24,7 +24,8 @@
 //! Promises: a connection writes the greeting, and then what comes of the client's items, one after another, to the end of its input ([`serve`]: `IsServed`
 //! of `specs/Serving.antt`, by `Runs` of `specs/Connection.antt`). What is written after a report is the image of the drive of that report, each node with
 //! its last change (`Tells` of `specs/Told.antt`); or that of its first calls, and a failure where a stop was asked for; or why there is no drive
-//! ([`reports_are_driven`]). What is written for a command that is answered at once isn't stated here: `svn_replies` says what it states of that.
+//! ([`reports_are_driven`]). Any other command is answered as `Replies` of `svn_replies` says; or, where it fails, the failure is written after what was
+//! written before (`IsAnswered` of `specs/Connection.antt`). A client is where its URL says (`IsOpened` of `svn_replies`).
 #![tactic(auto)]
 
 mod client_view;
