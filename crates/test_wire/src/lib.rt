@@ -1,10 +1,13 @@
-//! Tests of the protocol: items in pieces of several sizes, recorded and malformed; what servers answer; URLs; and what a client asks a server.
+//! Tests of the protocol: items in pieces of several sizes, recorded and malformed; what servers answer; URLs; what a client asks a server; and the commands
+//! that the calls of an edit are.
 #![tactic(auto)]
 
 #[cfg(test)]
 mod answers;
 #[cfg(test)]
 mod asked;
+#[cfg(test)]
+mod calls;
 #[cfg(test)]
 mod items;
 #[cfg(test)]

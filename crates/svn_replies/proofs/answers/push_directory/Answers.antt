@@ -1,0 +1,17 @@
+use Rattle.std.proofs.Common.{refl}
+use Rattle.svn_lists.proofs.Results.{OnOk_then}
+use Rattle.svn_replies.specs.Answers.{success}
+use Rattle.svn_replies.proofs.Appends.{directory_appended}
+use Rattle.svn_replies.proofs.answers.push_directory.Goals as goal
+
+pub returns : goal.returns
+unfolding success
+returns c =
+    let props = c.in_ok-push_props_if.ensures in
+    let entries = c.in_ok-push_entries_if.ensures in
+    OnOk_then c.push_end.result c.push_end.ensures (λ e. (
+      _,
+      (props.0, entries.0, props.1, entries.1, refl),
+      directory_appended _ _ _ _ _ _ _ _ _ _ _ _ _ _ _ _ _ _ _ c.in_ok-push_success.ensures c.in_ok-push_rev.ensures c.in_ok-push_open.ensures props.2
+          c.in_ok-push_close.ensures c.in_ok-push_open-2.ensures entries.2 c.in_ok-push_close-2.ensures e,
+    ))

@@ -1,0 +1,28 @@
+-- answers to commands, and what they are made of
+pub mod Answers
+-- what is read of nodes
+pub mod Nodes
+-- values of properties by their names
+pub mod Values
+-- the last change of a node
+pub mod LastChanges
+-- why a command isn't answered by success
+pub mod Refusals
+-- what a command's revisions and paths name
+pub mod Named
+-- the fields of commands
+pub mod CommandFields
+-- what a client is told of a node
+pub mod NodeBytes
+-- what is answered to commands
+pub mod Commands
+-- what the code holds of what is asked for
+pub mod Asking
+-- where nodes were in earlier revisions
+pub mod Segments
+-- what is answered to get-locations and get-location-segments
+pub mod Locations
+-- the commands of which no report follows
+pub mod Replies
+-- where a client is that names a URL
+pub mod Sessions

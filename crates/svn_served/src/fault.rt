@@ -1,0 +1,38 @@
+//! Why a connection ends.
+
+use std::alloc::{AllocError, AllocFailed};
+use std::io;
+use svn_wire::Malformed;
+use thiserror::Error;
+
+/// Why a connection ended before its input.
+#[derive(Debug, Drop, Error)]
+pub enum ServeFault {
+    /// The client's bytes are no items.
+    #[error("{0}")]
+    Malformed(Malformed),
+    /// An item of the client's is none that may come then.
+    #[error("a command that isn't one")]
+    BadCommand,
+    /// The client's bytes couldn't be read.
+    #[error("{0}")]
+    Read(io::Error),
+    /// The client takes no more bytes.
+    #[error("{0}")]
+    Write(io::Error),
+    /// An allocation failed.
+    #[error("out of memory")]
+    Memory,
+}
+
+impl From<AllocError> for ServeFault {
+    fn from(_error: AllocError) -> ServeFault {
+        ServeFault::Memory
+    }
+}
+
+impl<T: Drop> From<AllocFailed<T>> for ServeFault {
+    fn from(_error: AllocFailed<T>) -> ServeFault {
+        ServeFault::Memory
+    }
+}

@@ -1,0 +1,96 @@
+//! What is served, and what is written to a client.
+
+use anyhow::{Result, bail};
+use std::alloc::Global;
+use std::io;
+use std::io::Read;
+use svn_drive::DriveOptions;
+use svn_dump::{Limits, Reader, Texts};
+use svn_history::Loader;
+use svn_repo::Repo;
+use svn_replies::Revisions;
+pub(crate) use svn_replies::Served;
+use svn_served::{ServeFault, serve};
+use svn_types::{PropName, Props, Text};
+
+/// The revisions' dates and messages; all but the first are of one author.
+const REVISIONS: &[(&str, &str)] = &[
+    ("2026-01-01T00:00:00.000000Z", ""),
+    ("2026-01-02T01:00:00.000000Z", "layout"),
+    ("2026-01-03T02:00:00.000000Z", "files"),
+    ("2026-01-04T03:00:00.000000Z", "change"),
+    ("2026-01-05T04:00:00.000000Z", "branch"),
+    ("2026-01-06T05:00:00.000000Z", "change b"),
+    ("2026-01-07T06:00:00.000000Z", "gone"),
+    ("2026-01-08T07:00:00.000000Z", "move"),
+];
+
+fn insert(alloc: Global, props: &mut Props, name: &str, value: &str) -> Result<()> {
+    match PropName::parse(alloc, name) {
+        Ok(name) => Ok(props.insert(name, Text::from_str(alloc, value)?)?),
+        Err(fault) => bail!("{fault}"),
+    }
+}
+
+fn revisions(alloc: Global) -> Result<Revisions> {
+    let mut all = Vec::new(alloc);
+    for (date, message) in REVISIONS {
+        let mut props = Props::new(alloc);
+        insert(alloc, &mut props, "svn:date", date)?;
+        if !message.is_empty() {
+            insert(alloc, &mut props, "svn:author", "ann")?;
+            insert(alloc, &mut props, "svn:log", message)?;
+        }
+        all.push(props)?;
+    }
+    Ok(Revisions::new(all))
+}
+
+/// The history of a dump, whose repository is `repo` at its host.
+pub(crate) fn served(alloc: Global, dump: &[u8]) -> Result<Served> {
+    let reader = Reader::new(alloc, dump, Limits::default(), Texts::Whole)?.with_index();
+    let mut loader = Loader::new(alloc, reader, Repo::new(alloc)?);
+    loader.load_all()?;
+    let uuid = match loader.uuid() {
+        Some(uuid) => Text::from_slice(alloc, uuid)?,
+        None => bail!("no UUID"),
+    };
+    let (repo, Some(index)) = loader.into_parts() else {
+        bail!("no index")
+    };
+    Ok(Served {
+        repo,
+        index,
+        revisions: revisions(alloc)?,
+        uuid,
+        root: Text::from_str(alloc, "/repo")?,
+        options: DriveOptions::default(),
+    })
+}
+
+/// What is written to a client, and why the connection ended before its input did.
+#[derive(Drop)]
+pub(crate) struct Written {
+    pub(crate) bytes: Vec<u8>,
+    pub(crate) fault: Option<ServeFault>,
+}
+
+// A client's bytes, seven at a time.
+#[derive(Drop)]
+struct Pieces<'a> {
+    bytes: &'a [u8],
+}
+
+impl Read for Pieces<'_> {
+    fn read(&mut self, buf: &mut [u8]) -> io::Result<usize> {
+        let count = buf.len().min(7);
+        self.bytes.read(&mut buf[..count])
+    }
+}
+
+/// What is written to a client that sends these bytes.
+pub(crate) fn written(alloc: Global, served: &Served, client: &[u8]) -> Result<Written> {
+    let mut bytes = Vec::new(alloc);
+    let fault = serve(alloc, served, &mut Pieces { bytes: client }, &mut bytes).err();
+    Ok(Written { bytes, fault })
+}
