@@ -44,11 +44,15 @@ impl Several {
 /// The first five, and how many more there are: `a, b, c, d, e and 12 more`.
 impl fmt::Display for Several {
     fn fmt<W: fmt::Write>(&self, f: &mut fmt::Formatter<W>) -> fmt::Result {
-        let mut before = "";
-        for place in self.places.iter().take(NAMED) {
+        let named = &self.places[..self.places.len().min(NAMED)];
+        let Some((first, rest)) = named.split_first() else {
+            return Ok(());
+        };
+        let first = Source(first);
+        write!(f, "{first}")?;
+        for place in rest {
             let place = Source(place);
-            write!(f, "{before}{place}")?;
-            before = ", ";
+            write!(f, ", {place}")?;
         }
         match self.places.len().saturating_sub(NAMED) {
             0 => Ok(()),
