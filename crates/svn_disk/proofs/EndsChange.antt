@@ -10,6 +10,7 @@ use Rattle.std.specs.Option.{unwrap_or}
 use Rattle.std.proofs.lemmas.List.{take_more, take-append-drop, take_at, drop_at, length-append, reverse-append}
 use Rattle.std.proofs.Math.Seq.{take-length}
 use Rattle.svn_types.specs.Names.{Path, path_cmp}
+use Rattle.svn_types.specs.Paths.{path_eq}
 use Rattle.svn_types.proofs.NameLemmas.{Name}
 use Rattle.svn_types.proofs.PathLemmas.{same_path}
 use Rattle.svn_types.proofs.PathsInOrder.{at_path}
@@ -64,17 +65,18 @@ noted_after v false found h = h
 noted_at : (sizes : List (Path × Option ℕ)) (P : List ℕ → Type 0) (p : Path) (nodes : List (Path × BaseNode)) (node : BaseNode) → EachNoted sizes P nodes
     → get_in nodes p ≡ Some node → is_noted sizes p ≡ true → OfText P node
 noted_at sizes P p [] node each found noted = absurd (true≢false (sym (ap is_some found)))
-noted_at sizes P p (entry ∷ nodes) node each found noted = by (is_at (path_cmp p) entry.0) refl
+noted_at sizes P p (entry ∷ nodes) node each found noted =
+    by (is_at (path_cmp p) entry.0) refl (λ later. noted_at sizes P p nodes node each.1 later noted)
   where
     in_some : Option BaseNode → BaseNode
     in_some (Some x) = x
     in_some None = node
 
-    by : (b : Bool) → is_at (path_cmp p) entry.0 ≡ b → OfText P node
-    by true e =
+    by : (b : Bool) → is_at (path_cmp p) entry.0 ≡ b → (get_in nodes p ≡ Some node → OfText P node) → OfText P node
+    by true e rest =
         let same : p ≡ entry.0 = same_path p entry.0 (sym (at_path p entry.0) ∙ e) in
         subst (OfText P) (ap in_some (sym (ap (λ x. cond x (Some entry.1) (get_in nodes p)) e) ∙ found)) (each.0 (ap (is_noted sizes) (sym same) ∙ noted))
-    by false e = noted_at sizes P p nodes node each.1 (sym (ap (λ x. cond x (Some entry.1) (get_in nodes p)) e) ∙ found) noted
+    by false e rest = rest (sym (ap (λ x. cond x (Some entry.1) (get_in nodes p)) e) ∙ found)
 
 -- the node of a file that comes is the copy's
 node_text : (sizes : List (Path × Option ℕ)) (P : List ℕ → Type 0) (copy nodes : List (Path × BaseNode)) (item : Work) → AreNodesOf copy nodes → EachNoted sizes P nodes

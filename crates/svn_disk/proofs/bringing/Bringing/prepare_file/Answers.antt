@@ -1,9 +1,8 @@
-use Rattle.std.proofs.Common.{◌<◌, ◌^◌, List, ap, sym, ◌∙◌, subst, arith, rules}
+use Rattle.std.proofs.Common.{◌≡◌, ◌<◌, ◌^◌, true, ap, ◌∙◌, subst, arith, rules}
 use Rattle.std.specs.Prelude.{is_some}
-use Rattle.svn_disk.specs.declared.texts.Texts.{Texts}
-use Rattle.svn_disk.specs.Crashes.{OfText}
+use Rattle.svn_types.specs.Names.{Path}
 use Rattle.svn_disk.specs.Tasks.{node_at}
-use Rattle.svn_disk.specs.Ends.{IsHeld, CopiesNode}
+use Rattle.svn_disk.specs.Ends.{IsHeld, CopiesNode, is_noted}
 use Rattle.svn_disk.proofs.Adding.{adds_none, adds_some_none, adds_more, adds_some_more, adds_there, temporary_adds, temporary_adds_some}
 use Rattle.svn_disk.proofs.Ends.{turns_more}
 use Rattle.svn_disk.proofs.EndsTexts.{node_counts, node_held, node_comes}
@@ -15,8 +14,8 @@ returns-in_default-clause-adds g c =
     let none = adds_none c.args.self.now.admin.now.name (g.F.Folder.past c.args.folder.now) in
     let some = adds_some_none c.args.self.now.admin.now.name (g.F.Folder.past c.args.folder.now) in search rules
 
-pub returns-in_err-clone-in_default-clause-adds : goal.returns-in_err-clone-in_default-clause-adds
-returns-in_err-clone-in_default-clause-adds g c =
+pub returns-in_err-clone-clause-adds : goal.returns-in_err-clone-clause-adds
+returns-in_err-clone-clause-adds g c =
     let none = adds_none c.args.self.now.admin.now.name (g.F.Folder.past c.args.folder.now) in
     let some = adds_some_none c.args.self.now.admin.now.name (g.F.Folder.past c.args.folder.now) in search rules
 
@@ -26,8 +25,8 @@ returns-in_err-is_file-clause-adds g c =
     (temporary_adds_some c.args.self.now.admin.now.name (g.F.Folder.past c.keep_whole.new.folder) (g.F.Folder.past c.prepare_unless_locked.new.folder)
     c.in_err-is_file.ensures.steps.1) in search rules
 
-pub returns-in_err-clone-clause-adds : goal.returns-in_err-clone-clause-adds
-returns-in_err-clone-clause-adds g c =
+pub returns-in_err-clone-2-clause-adds : goal.returns-in_err-clone-2-clause-adds
+returns-in_err-clone-2-clause-adds g c =
     let stops = adds_there (adds_more c.in_ok-size.ensures.adds.0
     (temporary_adds c.args.self.now.admin.now.name (g.F.Folder.past c.keep_whole.new.folder) (g.F.Folder.past c.prepare_unless_locked.new.folder)
     c.in_ok-is_file.ensures.steps.0)) in search rules
@@ -55,7 +54,8 @@ returns-clause-held g c =
     c.in_ok-size.ensures.held
 
 pub returns-clause-noted : goal.returns-clause-noted
-returns-clause-noted g c = ap is_some c.in_ok-insert.ensures.updates.1
+returns-clause-noted g c =
+    subst (λ (q : Path). is_noted c.insert.new.self.entries q ≡ true) c.in_ok-clone-2.ensures.cases (ap is_some c.in_ok-insert.ensures.updates.1)
 
 pub returns-clause-all : goal.returns-clause-all
 returns-clause-all g c = λ p noted. ap is_some (c.in_ok-insert.ensures.updates.0 p) ∙ noted_after _ _ _ noted

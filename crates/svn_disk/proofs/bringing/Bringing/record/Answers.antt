@@ -5,6 +5,7 @@ use Rattle.svn_model.specs.declared.base_node.BaseNode.{BaseNode}
 use Rattle.svn_wcrows.specs.Copies.{StandsFor}
 use Rattle.svn_disk.specs.Crashes.{IsOneOf, IsSafe, Runs}
 use Rattle.svn_disk.proofs.Replacing.{one_none}
+use Rattle.std.proofs.Common.{[], arith}
 use Rattle.std.specs.Prelude.{⊤}
 use Rattle.svn_disk.specs.Crashes.{AreNodesOf}
 use Rattle.svn_disk.specs.Tasks.{work_nodes}
