@@ -10,8 +10,8 @@ use std::rt::Files;
 use svn_drive::DriveOptions;
 use svn_dump::{DumpIndex, Limits, Reader, Texts};
 use svn_history::Loader;
-use svn_repo::Repo;
 use svn_replies::Served;
+use svn_repo::Repo;
 use svn_types::Text;
 
 /// A dump's history.

@@ -7,9 +7,9 @@ use std::io::Read;
 use svn_drive::DriveOptions;
 use svn_dump::{Limits, Reader, Texts};
 use svn_history::Loader;
-use svn_repo::Repo;
 use svn_replies::Revisions;
 pub(crate) use svn_replies::Served;
+use svn_repo::Repo;
 use svn_served::{ServeFault, serve};
 use svn_types::{PropName, Props, Text};
 
