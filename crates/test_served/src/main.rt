@@ -10,7 +10,7 @@ mod shown;
 
 use anyhow::{Result, bail};
 use hostile::{deep, not_text, rows};
-use sessions::{Served, served, written};
+use sessions::{Served, answers_to, load};
 use shown::shown;
 use std::alloc::Global;
 use std::fs;
@@ -46,12 +46,12 @@ fn check_cut(
     len: usize,
     whole: &[u8],
 ) -> Result<bool> {
-    let cut = written(alloc, served, client.get(..len).unwrap_or(&[]))?;
+    let cut = answers_to(alloc, served, client.get(..len).unwrap_or(&[]))?;
     Ok(whole.starts_with(&cut.bytes) && cut.fault.is_none())
 }
 
 fn check_cuts(alloc: Global, served: &Served, name: &str, client: &[u8]) -> Result<()> {
-    let whole = written(alloc, served, client)?.bytes;
+    let whole = answers_to(alloc, served, client)?.bytes;
     for len in 0..client.len() {
         if !check_cut(alloc, served, client, len, &whole)? {
             bail!("{name}: cut off after {len} bytes it is answered otherwise, or refused")
@@ -67,7 +67,7 @@ fn print_answer<R: AllocGlobal + Print>(
     name: &str,
     client: &[u8],
 ) -> Result<()> {
-    let answered = written(rt.alloc(), served, client)?;
+    let answered = answers_to(rt.alloc(), served, client)?;
     let line = shown(rt.alloc(), &answered.bytes)?;
     println!(rt; "== {name}\n{line}")?;
     if let Some(fault) = &answered.fault {
@@ -109,7 +109,7 @@ fn print_hostile<R: AllocGlobal + Print>(rt: &R, served: &Served) -> Result<()> 
 
 fn main(rt: HostRuntime) -> Result<()> {
     let dump = fs::read(&rt, "history.dump")?;
-    let served = served(rt.alloc(), &dump)?;
+    let served = load(rt.alloc(), &dump)?;
     print_sessions(&rt, &served)?;
     print_hostile(&rt, &served)
 }

@@ -47,7 +47,7 @@ fn revisions(alloc: Global) -> Result<Revisions> {
 }
 
 /// The history of a dump, whose repository is `repo` at its host.
-pub(crate) fn served(alloc: Global, dump: &[u8]) -> Result<Served> {
+pub(crate) fn load(alloc: Global, dump: &[u8]) -> Result<Served> {
     let reader = Reader::new(alloc, dump, Limits::default(), Texts::Whole)?.with_index();
     let mut loader = Loader::new(alloc, reader, Repo::new(alloc)?);
     loader.load_all()?;
@@ -89,7 +89,7 @@ impl Read for Pieces<'_> {
 }
 
 /// What is written to a client that sends these bytes.
-pub(crate) fn written(alloc: Global, served: &Served, client: &[u8]) -> Result<Written> {
+pub(crate) fn answers_to(alloc: Global, served: &Served, client: &[u8]) -> Result<Written> {
     let mut bytes = Vec::new(alloc);
     let fault = serve(alloc, served, &mut Pieces { bytes: client }, &mut bytes).err();
     Ok(Written { bytes, fault })
