@@ -31,7 +31,7 @@ TOP = os.path.dirname(os.path.dirname(os.path.abspath(__file__)))
 ENDINGS = (".rt", ".antt", ".md", ".py", ".sh", ".script", ".output", ".edit")
 COMMENT = re.compile(r"^\s*//[/!] ?(.*)$")
 LONGEST_LINE, LONGEST_ROW, README_LINES, MANUAL_WORDS, PAGE_WORDS = 160, 500, 110, 1800, 2800
-MANUALS = {"docs/SCRIPT.md", "docs/AUDIT.md", "docs/COPY.md"}
+MANUALS = {"docs/SCRIPT.md", "docs/AUDIT.md", "docs/COPY.md", "docs/READ.md"}
 # wordings of pages and of comments, each with what to write for it
 NEVER = {
     r"wants? of memory|wanting memory|memory is wanting": "out of memory",
