@@ -1,10 +1,10 @@
 #!/usr/bin/env python3
-"""Writes a dump for a measurement of `svnaudit check` beside `svn status` and `svnadmin verify`.
+"""Writes a dump to measure with (bench/on_disk).
 
-    large_history.py [FILES [REVISIONS]] | svnadmin load -q --no-flush-to-disk REPO
+    large_history.py [FILES [REVISIONS [CHANGED]]] | svnadmin load -q --no-flush-to-disk REPO
 
 Revision 1 adds so many files of about 1,000 bytes, by default 80,000, to directories of 100 each; each later one, by default up to revision 100, changes
-500 of them, and a property of 50.
+so many of them, by default 500, and a property of a tenth of these.
 """
 import hashlib
 import sys
@@ -35,6 +35,7 @@ def write_node(out, path, kind, action, text=None, section=None):
 def main(words):
     files = int(words[0]) if words else 80000
     revisions = int(words[1]) if words[1:] else 100
+    changed = min(int(words[2]) if words[2:] else 500, files)
     out = sys.stdout.buffer
     out.write(b"SVN-fs-dump-format-version: 2\n\nUUID: 3f0f6a6e-0000-4000-8000-000000000052\n\n")
     none = props([])
@@ -54,8 +55,8 @@ def main(words):
                     write_node(out, b"trunk/d%02d/e%03d" % (number // 1000, number // 100), b"dir", b"add", None, none)
                 write_node(out, path_of(number), b"file", b"add", text_of(number, 1), none)
             continue
-        for step in range(min(500, files)):
-            number = (rev * 7919 + step * 160) % files
+        for step in range(changed):
+            number = (rev * 7919 + step * (files // changed)) % files
             section = props([(b"checked", b"%d" % rev)]) if step % 10 == 0 else None
             write_node(out, path_of(number), b"file", b"change", text_of(number, rev), section)
 
