@@ -36,14 +36,14 @@ const EXECUTE: u32 = 0o111;
 /// So many bytes of a file are read at once.
 const PIECE: usize = 65536;
 
-/// So many threads sync files at once.
-const MAX_THREADS: usize = 16;
+/// So many threads sync files at once: a journal brings to the disk together what waits for it, so it is the number that wait which makes it fast.
+const MAX_THREADS: usize = 64;
 
 /// A thread syncs at least so many files.
 const MIN_SHARE: usize = 8;
 
-/// So many files may be open at once.
-const MAX_OPEN: usize = 256;
+/// So many files may be open at once: half of what a program may have open where nobody raised that.
+const MAX_OPEN: usize = 512;
 
 /// A folder of the system. Each step is the calls that it names, and a look before it at what the system wouldn't refuse. What the system refuses is
 /// `Failed`, with its error, also where the step doesn't fit.
@@ -52,7 +52,7 @@ const MAX_OPEN: usize = 256;
 /// locked; where the system has no such locks, or the database may not be written, it is as by default.
 ///
 /// `make_file` writes each piece as it comes, and `copy_file` from file to file, so that neither holds a text. The step of an error of theirs has no
-/// bytes. `sync_files` opens up to 256 files at a time, and syncs them in up to 16 threads.
+/// bytes. `sync_files` opens up to 512 files at a time, and syncs them in up to 64 threads.
 ///
 /// No contract says what the system does. That it keeps `specs/Crashes.antt`, that a rename is atomic, and that nobody else changes what is in the
 /// folder between a look and a step, is trusted.
@@ -121,7 +121,7 @@ impl<'a, T: Files<File = File> + Threads + AllocGlobal> DiskFolder<'a, T> {
     }
 
     // The system's path of a path in the folder.
-    fn place(&self, path: &RelPath) -> Result<PathBuf, AllocError> {
+    pub(crate) fn place(&self, path: &RelPath) -> Result<PathBuf, AllocError> {
         let alloc = self.rt.alloc();
         let below = format!(in alloc; "{path}")?;
         self.root.join(alloc, below.as_str())
@@ -133,7 +133,7 @@ impl<'a, T: Files<File = File> + Threads + AllocGlobal> DiskFolder<'a, T> {
     }
 
     // Makes a file where none is, with the mode that it is to have, and nothing in it.
-    fn create(&self, place: &PathBuf, mode: Mode) -> io::Result<T::File> {
+    pub(crate) fn create(&self, place: &PathBuf, mode: Mode) -> io::Result<T::File> {
         let mut options = OpenOptions::new();
         options.write(true).create_new(true).mode(bits_of(mode));
         options.open(self.rt, place)
@@ -148,7 +148,7 @@ impl<'a, T: Files<File = File> + Threads + AllocGlobal> DiskFolder<'a, T> {
     }
 
     // Makes a file of these bytes.
-    fn write_bytes(
+    pub(crate) fn write_bytes(
         &self,
         place: &PathBuf,
         bytes: &[u8],
@@ -158,6 +158,25 @@ impl<'a, T: Files<File = File> + Threads + AllocGlobal> DiskFolder<'a, T> {
         let mut file = self.create(place, mode)?;
         file.write_all(bytes)?;
         self.set_time(&file, modified)
+    }
+
+    // Writes pieces to a file as they come, and gives it its time.
+    pub(crate) fn write_rest<P: Pieces>(
+        &self,
+        mut file: T::File,
+        modified: Option<u64>,
+        pieces: &mut P,
+    ) -> io::Result<()>
+        ensures given { Gives (P.given pieces.old) (P.given pieces.new) }
+        ensures over { OnOk result (P.is_over pieces.new) }
+    {
+        'pieces: for _ in 0..u64::MAX {
+            let Some(piece) = pieces.next_piece(self.rt.alloc()) else {
+                return self.set_time(&file, modified);
+            };
+            file.write_all(piece.as_slice())?;
+        }
+        Err(io::Error::from(ErrorKind::FileTooLarge))
     }
 
     // Makes a file of the pieces, each written as it comes.
@@ -171,14 +190,8 @@ impl<'a, T: Files<File = File> + Threads + AllocGlobal> DiskFolder<'a, T> {
         ensures given { Gives (P.given pieces.old) (P.given pieces.new) }
         ensures over { OnOk result (P.is_over pieces.new) }
     {
-        let mut file = self.create(place, mode)?;
-        'pieces: for _ in 0..u64::MAX {
-            let Some(piece) = pieces.next_piece(self.rt.alloc()) else {
-                return self.set_time(&file, modified);
-            };
-            file.write_all(piece.as_slice())?;
-        }
-        Err(io::Error::from(ErrorKind::FileTooLarge))
+        let file = self.create(place, mode)?;
+        self.write_rest(file, modified, pieces)
     }
 
     // Makes a file with the bytes of another one.
@@ -242,7 +255,7 @@ impl<'a, T: Files<File = File> + Threads + AllocGlobal> DiskFolder<'a, T> {
     }
 
     // What the system knows of an entry, by its own path.
-    fn found(&self, place: &PathBuf) -> io::Result<Option<Metadata>> {
+    pub(crate) fn found(&self, place: &PathBuf) -> io::Result<Option<Metadata>> {
         match fs::symlink_metadata(self.rt, place) {
             Ok(found) => Ok(Some(found)),
             Err(error) if is_absent(&error) => Ok(None),

@@ -53,6 +53,7 @@ mod stopped;
 mod summary;
 mod synced;
 mod unsynced;
+mod write_behind;
 
 pub use database_lock::{DatabaseLock, Locks};
 pub use disk::DiskFolder;
@@ -71,3 +72,4 @@ pub use step::Step;
 pub use stopped::StoppedFolder;
 pub use summary::Summary;
 pub use synced::SyncedFolder;
+pub use write_behind::WriteBehind;

@@ -1,5 +1,5 @@
 use Rattle.svn_folder.specs.Files.{Gives}
-use Rattle.svn_folder.proofs.disk.DiskFolder.write_pieces.Given as goal
+use Rattle.svn_folder.proofs.disk.DiskFolder.write_rest.Given as goal
 
 -- some pieces were given
 abbrev pub invariant-pieces : goal.invariant-pieces

@@ -1,5 +1,5 @@
 use Rattle.svn_folder.proofs.Giving.{gives_more}
-use Rattle.svn_folder.proofs.disk.DiskFolder.write_pieces.Goals as goal
+use Rattle.svn_folder.proofs.disk.DiskFolder.write_rest.Goals as goal
 
 pub returns-in_err-write_all-clause-given : goal.returns-in_err-write_all-clause-given
 returns-in_err-write_all-clause-given g c =
