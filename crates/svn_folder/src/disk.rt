@@ -9,29 +9,21 @@ use crate::fault::{FolderFault, Misfit};
 use crate::folder::Folder;
 use crate::listing::{add_name, in_order};
 use crate::locks::is_locked_at;
+use crate::new_file::{create, set_time, write_new};
 use crate::pieces::Pieces;
 use crate::step::{Step, make_step};
 use crate::summary::Summary;
 use sha1::Sha1;
 use std::alloc::{AllocError, Global};
 use std::collections::BTreeSet;
-use std::fs::{File, FileTimes, Metadata, OpenFile, OpenOptions};
+use std::fs::{File, Metadata, OpenFile};
 use std::io::{ErrorKind, Read, Write};
-use std::os::unix::fs::{OpenOptionsExt, PermissionsExt, symlink};
+use std::os::unix::fs::{PermissionsExt, symlink};
 use std::path::PathBuf;
 use std::rt::Files;
 use std::thread::Threads;
-use std::time::{Duration, SystemTime, UNIX_EPOCH};
 use std::{fs, io, thread};
 use svn_types::{Name, PathFault, RelPath, Sha1Sum, Text};
-
-/// Everybody may read.
-const READ: u32 = 0o444;
-
-/// Everybody may write, or run it as a program.
-const WRITE: u32 = 0o222;
-
-const EXECUTE: u32 = 0o111;
 
 /// So many bytes of a file are read at once.
 const PIECE: usize = 65536;
@@ -68,20 +60,6 @@ fn unread(path: &RelPath, error: io::Error) -> Result<FolderFault, AllocError> {
         path: path.clone()?,
         error,
     })
-}
-
-// The bits of a mode.
-fn bits_of(mode: Mode) -> u32 {
-    let write = if mode.read_only { 0 } else { WRITE };
-    let execute = if mode.executable { EXECUTE } else { 0 };
-    READ | write | execute
-}
-
-// A time in microseconds since 1970.
-fn time_of(micros: u64) -> io::Result<SystemTime> {
-    UNIX_EPOCH
-        .checked_add(Duration::from_micros(micros))
-        .ok_or(io::Error::from(ErrorKind::InvalidInput))
 }
 
 // How many of so many files a thread syncs.
@@ -132,34 +110,6 @@ impl<'a, T: Files<File = File> + Threads + AllocGlobal> DiskFolder<'a, T> {
         self.root.join(self.rt.alloc(), name.as_str())
     }
 
-    // Makes a file where none is, with the mode that it is to have, and nothing in it.
-    pub(crate) fn create(&self, place: &PathBuf, mode: Mode) -> io::Result<T::File> {
-        let mut options = OpenOptions::new();
-        options.write(true).create_new(true).mode(bits_of(mode));
-        options.open(self.rt, place)
-    }
-
-    // Gives a file the time that it is to have, once all is written.
-    fn set_time(&self, file: &T::File, modified: Option<u64>) -> io::Result<()> {
-        match modified {
-            Some(micros) => file.set_times(FileTimes::new().set_modified(time_of(micros)?)),
-            None => Ok(()),
-        }
-    }
-
-    // Makes a file of these bytes.
-    pub(crate) fn write_bytes(
-        &self,
-        place: &PathBuf,
-        bytes: &[u8],
-        mode: Mode,
-        modified: Option<u64>,
-    ) -> io::Result<()> {
-        let mut file = self.create(place, mode)?;
-        file.write_all(bytes)?;
-        self.set_time(&file, modified)
-    }
-
     // Writes pieces to a file as they come, and gives it its time.
     pub(crate) fn write_rest<P: Pieces>(
         &self,
@@ -172,7 +122,7 @@ impl<'a, T: Files<File = File> + Threads + AllocGlobal> DiskFolder<'a, T> {
     {
         'pieces: for _ in 0..u64::MAX {
             let Some(piece) = pieces.next_piece(self.rt.alloc()) else {
-                return self.set_time(&file, modified);
+                return set_time(&file, modified);
             };
             file.write_all(piece.as_slice())?;
         }
@@ -190,7 +140,7 @@ impl<'a, T: Files<File = File> + Threads + AllocGlobal> DiskFolder<'a, T> {
         ensures given { Gives (P.given pieces.old) (P.given pieces.new) }
         ensures over { OnOk result (P.is_over pieces.new) }
     {
-        let file = self.create(place, mode)?;
+        let file = create(self.rt, place, mode)?;
         self.write_rest(file, modified, pieces)
     }
 
@@ -203,9 +153,9 @@ impl<'a, T: Files<File = File> + Threads + AllocGlobal> DiskFolder<'a, T> {
         modified: Option<u64>,
     ) -> io::Result<()> {
         let mut from = File::open(self.rt, source)?;
-        let mut file = self.create(place, mode)?;
+        let mut file = create(self.rt, place, mode)?;
         io::copy(&mut from, &mut file)?;
-        self.set_time(&file, modified)
+        set_time(&file, modified)
     }
 
     // Makes a link. A target that isn't UTF-8 is refused.
@@ -218,7 +168,9 @@ impl<'a, T: Files<File = File> + Threads + AllocGlobal> DiskFolder<'a, T> {
 
     fn make(&self, place: &PathBuf, entry: &Entry, modified: Option<u64>) -> io::Result<()> {
         match entry {
-            Entry::File(bytes, mode) => self.write_bytes(place, bytes.as_slice(), *mode, modified),
+            Entry::File(bytes, mode) => {
+                write_new(self.rt, place, bytes.as_slice(), *mode, modified)
+            }
             Entry::Directory => fs::create_dir(self.rt, place),
             Entry::Link(target) => self.make_link(place, target.as_slice()),
         }
@@ -255,7 +207,7 @@ impl<'a, T: Files<File = File> + Threads + AllocGlobal> DiskFolder<'a, T> {
     }
 
     // What the system knows of an entry, by its own path.
-    pub(crate) fn found(&self, place: &PathBuf) -> io::Result<Option<Metadata>> {
+    fn found(&self, place: &PathBuf) -> io::Result<Option<Metadata>> {
         match fs::symlink_metadata(self.rt, place) {
             Ok(found) => Ok(Some(found)),
             Err(error) if is_absent(&error) => Ok(None),

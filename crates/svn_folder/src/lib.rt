@@ -47,6 +47,7 @@ mod left;
 mod listing;
 mod locks;
 mod memory;
+mod new_file;
 mod pieces;
 mod step;
 mod stopped;
@@ -67,6 +68,7 @@ pub use laws::{
     what_is_synced_stays_meanwhile,
 };
 pub use memory::MemoryFolder;
+pub use new_file::{FileMaker, NewFile, Unmade};
 pub use pieces::{BytePieces, Pieces};
 pub use step::Step;
 pub use stopped::StoppedFolder;

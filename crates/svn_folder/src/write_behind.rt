@@ -1,5 +1,5 @@
 //! A folder of the system whose small new files are written later, many at once.
-ghost use Rattle.std.specs.Prelude.{◌<◌, OnOk};
+ghost use Rattle.std.specs.Prelude.{OnOk};
 ghost use Rattle.svn_folder.specs.Files.{Gives};
 
 use crate::database_lock::{DatabaseLock, Locks};
@@ -8,6 +8,7 @@ use crate::entry::{Entry, Mode};
 use crate::fault::FolderFault;
 use crate::folder::Folder;
 use crate::listing::{add_name, in_order};
+use crate::new_file::{FileMaker, NewFile, Unmade, create};
 use crate::pieces::Pieces;
 use crate::step::{Step, make_step};
 use crate::summary::Summary;
@@ -18,7 +19,7 @@ use std::io::Write;
 use std::path::PathBuf;
 use std::rt::Files;
 use std::thread::Threads;
-use std::{io, thread};
+use std::{io, mem};
 use svn_types::{Name, RelPath, Text};
 
 /// So many files wait at most, and so many bytes of theirs.
@@ -30,21 +31,6 @@ const MAX_BYTES: usize = 4_194_304;
 const MAX_THREADS: usize = 8;
 
 const MIN_SHARE: usize = 16;
-
-// A file that is to be written.
-#[derive(Drop)]
-struct NewFile {
-    bytes: Text,
-    mode: Mode,
-    modified: Option<u64>,
-}
-
-// One that wasn't written, by its place among others, and what the system says.
-#[derive(Drop)]
-struct Unwritten {
-    place: usize,
-    error: io::Error,
-}
 
 /// A folder of the system, for whoever makes many small files there. A file that [`Folder::make_file`] gets as one piece, or [`Folder::copy_file`] of such
 /// a file, waits in memory, up to 512 of them and 4 MiB in all, and then they are written by up to eight threads. A rename of a file that waits changes its
@@ -62,39 +48,30 @@ pub struct WriteBehind<'a, T> {
 }
 
 // How many of so many files a thread writes.
-fn share_size(count: usize) -> usize
-    ensures { 0 < result }
-{
+fn share_size(count: usize) -> usize {
     count.div_ceil(MAX_THREADS).max(MIN_SHARE)
 }
 
-// Writes a file where none is.
-fn write_one<T: Files<File = File> + Threads + AllocGlobal>(
-    disk: &DiskFolder<'_, T>,
-    path: &RelPath,
-    file: &NewFile,
-) -> io::Result<()> {
-    let place = disk.place(path)?;
-    disk.write_bytes(&place, file.bytes.as_slice(), file.mode, file.modified)
-}
-
-// Writes files one after the other, up to the first that can't be written.
-fn write_share<T: Files<File = File> + Threads + AllocGlobal>(
-    disk: &DiskFolder<'_, T>,
-    begin: usize,
-    files: &[(&RelPath, &NewFile)],
-) -> Option<Unwritten> {
-    for (number, (path, file)) in files.iter().enumerate() {
-        if let Err(error) = write_one(disk, path, file) {
-            let place = begin.saturating_add(number);
-            return Some(Unwritten { place, error });
+// Files in the shares of the threads that write them.
+fn shares_of(
+    alloc: Global,
+    files: BTreeMap<RelPath, NewFile>,
+) -> Result<Vec<Vec<NewFile>>, AllocError> {
+    let size = share_size(files.len());
+    let mut shares = Vec::new(alloc);
+    let mut share = Vec::new(alloc);
+    for (_, file) in files {
+        share.push(file)?;
+        if share.len() >= size {
+            shares.push(mem::replace(&mut share, Vec::new(alloc)))?;
         }
     }
-    None
+    shares.push(share)?;
+    Ok(shares)
 }
 
-// The fault of a file that can't be made. It lacks the bytes.
-fn fault_of(
+// The fault of making a file. Its step lacks the bytes.
+fn failed(
     alloc: Global,
     path: &RelPath,
     mode: Mode,
@@ -105,7 +82,13 @@ fn fault_of(
     Ok(FolderFault::Failed { step, error })
 }
 
-impl<'a, T: Files<File = File> + Threads + Locks + Sync + AllocGlobal> WriteBehind<'a, T> {
+// The fault of a file that wasn't made.
+fn fault_of(alloc: Global, unmade: Unmade) -> Result<FolderFault, AllocError> {
+    let Unmade { file, error } = unmade;
+    failed(alloc, &file.path, file.mode, file.modified, error)
+}
+
+impl<'a, T: Files<File = File> + Threads + Locks + FileMaker + AllocGlobal> WriteBehind<'a, T> {
     /// The folder at a path of the system. Nothing is looked at.
     pub fn new(rt: &'a T, root: PathBuf) -> WriteBehind<'a, T> {
         WriteBehind {
@@ -121,49 +104,38 @@ impl<'a, T: Files<File = File> + Threads + Locks + Sync + AllocGlobal> WriteBehi
         self.waiting.contains_key(path)
     }
 
-    // Writes what waits, and returns the fault of the first file that can't be written.
-    fn write_all(&self) -> Result<Option<FolderFault>, AllocError> {
-        let alloc = self.rt.alloc();
-        let mut files = Vec::with_capacity(alloc, self.waiting.len())?;
-        for entry in &self.waiting {
-            files.push(entry)?;
-        }
-        let disk = &self.disk;
-        let write = move |begin: usize, share: &[(&RelPath, &NewFile)]| -> Option<Unwritten> {
-            write_share(disk, begin, share)
-        };
-        let shares = thread::map_chunks(self.rt, alloc, &files, share_size(files.len()), &write)?;
-        for unwritten in shares {
-            if let Some(Unwritten { place, error }) = unwritten {
-                return match files.get(place) {
-                    Some((path, file)) => {
-                        Ok(Some(fault_of(alloc, path, file.mode, file.modified, error)?))
-                    }
-                    None => Ok(None),
-                };
-            }
-        }
-        Ok(None)
-    }
-
-    /// Writes what waits. `Failed` with the first file that the system doesn't take; of the others none waits any more, written or not. `Memory` if an
-    /// allocation fails: what waits may be written in part, and waits.
+    /// Writes what waits. `Failed` with a file that the system doesn't take; then, and with `Memory`, which is an allocation that fails, any of the others
+    /// may be written, and none waits any more.
     pub fn finish(&mut self) -> Result<(), FolderFault> {
         if self.waiting.is_empty() {
             return Ok(());
         }
-        let fault = self.write_all()?;
-        self.waiting.clear();
+        let alloc = self.rt.alloc();
+        let waiting = mem::replace(&mut self.waiting, BTreeMap::new(alloc));
         self.bytes = 0;
-        match fault {
-            Some(fault) => Err(fault),
+        match self.rt.make_files(self.rt, shares_of(alloc, waiting)?)? {
+            Some(unmade) => Err(fault_of(alloc, unmade)?),
             None => Ok(()),
         }
     }
 
     // Lets a file wait, and writes all if that is enough.
-    fn add(&mut self, path: &RelPath, file: NewFile) -> Result<(), FolderFault> {
-        self.bytes = self.bytes.saturating_add(file.bytes.as_slice().len());
+    fn add(
+        &mut self,
+        path: &RelPath,
+        bytes: Text,
+        mode: Mode,
+        modified: Option<u64>,
+    ) -> Result<(), FolderFault> {
+        self.bytes = self.bytes.saturating_add(bytes.as_slice().len());
+        let place = self.disk.place(path)?;
+        let file = NewFile {
+            path: path.clone()?,
+            place,
+            bytes,
+            mode,
+            modified,
+        };
         self.waiting.insert(path.clone()?, file)?;
         if self.bytes < MAX_BYTES && self.waiting.len() < MAX_FILES {
             return Ok(());
@@ -182,12 +154,25 @@ impl<'a, T: Files<File = File> + Threads + Locks + Sync + AllocGlobal> WriteBehi
         if self.waits(to) || self.disk.look(self.rt.alloc(), to)?.is_some() {
             return Ok(false);
         }
-        let new = to.clone()?;
-        if let Some(file) = self.waiting.remove(from) {
-            self.waiting.insert(new, file)?;
-            return Ok(true);
-        }
-        Ok(false)
+        let place = self.disk.place(to)?;
+        let Some(file) = self.waiting.remove(from) else {
+            return Ok(false);
+        };
+        let NewFile {
+            bytes,
+            mode,
+            modified,
+            ..
+        } = file;
+        let file = NewFile {
+            path: to.clone()?,
+            place,
+            bytes,
+            mode,
+            modified,
+        };
+        self.waiting.insert(to.clone()?, file)?;
+        Ok(true)
     }
 
     // Makes a file that comes in more than one piece.
@@ -203,14 +188,15 @@ impl<'a, T: Files<File = File> + Threads + Locks + Sync + AllocGlobal> WriteBehi
     {
         let (mode, modified) = how;
         let place = self.disk.place(path)?;
-        let mut file = self.disk.create(&place, mode)?;
+        let mut file = create(self.rt, &place, mode)?;
         file.write_all(front.0.as_slice())?;
         file.write_all(front.1.as_slice())?;
         self.disk.write_rest(file, modified, pieces)
     }
 }
 
-impl<T: Files<File = File> + Threads + Locks + Sync + AllocGlobal> Folder for WriteBehind<'_, T> {
+impl<T: Files<File = File> + Threads + Locks + FileMaker + AllocGlobal> Folder
+    for WriteBehind<'_, T> {
     fn take(&mut self, step: Step) -> Result<(), FolderFault> {
         match &step {
             Step::Rename { from, to } => {
@@ -249,29 +235,15 @@ impl<T: Files<File = File> + Threads + Locks + Sync + AllocGlobal> Folder for Wr
         }
         let Some(first) = pieces.next_piece(alloc) else {
             let bytes = Text::new(Vec::new(alloc));
-            return self.add(
-                path,
-                NewFile {
-                    bytes,
-                    mode,
-                    modified,
-                },
-            );
+            return self.add(path, bytes, mode, modified);
         };
         let Some(second) = pieces.next_piece(alloc) else {
             let bytes = first;
-            return self.add(
-                path,
-                NewFile {
-                    bytes,
-                    mode,
-                    modified,
-                },
-            );
+            return self.add(path, bytes, mode, modified);
         };
         match self.make_large(path, (mode, modified), (&first, &second), pieces) {
             Ok(()) => Ok(()),
-            Err(error) => Err(fault_of(alloc, path, mode, modified, error)?),
+            Err(error) => Err(failed(alloc, path, mode, modified, error)?),
         }
     }
 
@@ -288,14 +260,7 @@ impl<T: Files<File = File> + Threads + Locks + Sync + AllocGlobal> Folder for Wr
         }
         if let Some(file) = self.waiting.get(from) {
             let bytes = file.bytes.clone()?;
-            return self.add(
-                to,
-                NewFile {
-                    bytes,
-                    mode,
-                    modified,
-                },
-            );
+            return self.add(to, bytes, mode, modified);
         }
         self.disk.copy_file(alloc, from, to, mode, modified)
     }
