@@ -12,7 +12,8 @@
 //!
 //! A [`Folder`] takes [`Step`]s, one by one, shows the [`Entry`] at a path, or its [`Summary`] without the bytes of a file, and lists a directory. Here
 //! are [`MemoryFolder`], on which tests run, [`DiskFolder`], a folder of the system, [`StoppedFolder`], which takes so many steps of another one and
-//! refuses all after them, and [`SyncedFolder`], which keeps what of another one isn't on the disk yet.
+//! refuses all after them, and [`SyncedFolder`], which keeps what of another one isn't on the disk yet. [`WriteBehind`] is a folder of the system for
+//! whoever makes many files: they wait in memory until some hundreds are written at once, in several threads.
 //!
 //! A folder also makes a file of [`Pieces`] that come one by one, makes one with the bytes of another, and syncs several files: each has the contract of
 //! the steps that it stands for. A folder of the system then holds no text in memory, and syncs in several threads. [`SyncedFolder::sync_all`] brings

@@ -38,6 +38,17 @@ impl<F: Folder> SyncedFolder<F> {
         }
     }
 
+    /// The same where nothing is to be brought to the disk: it keeps no path, and `is_synced` is never true.
+    pub fn unmarked(alloc: Global, folder: F) -> SyncedFolder<F>
+        requires { IsSyncedPast (F.past folder) }
+        ensures { result.folder ≡ folder }
+    {
+        SyncedFolder {
+            folder,
+            unsynced: Unsynced::unknown(alloc),
+        }
+    }
+
     /// Whether all of it is on the disk: each file that was made or put somewhere was synced, and each directory after the last change of a name in
     /// it, those above it first. Then a crash leaves what the folder shows. After a failure of the system it is never true.
     pub fn is_synced(&self) -> bool

@@ -80,6 +80,18 @@ impl Unsynced {
         }
     }
 
+    /// Nothing is known.
+    pub(crate) fn unknown(alloc: Global) -> Unsynced
+        ensures { AreWithin no_marks (marks_of result) }
+    {
+        Unsynced {
+            alloc,
+            files: BTreeSet::new(alloc),
+            directories: BTreeSet::new(alloc),
+            is_unknown: true,
+        }
+    }
+
     /// Whether everything is on the disk.
     pub(crate) fn is_nothing(&self) -> bool
         ensures exact { IsTrue result ↔ ((self.now.is_unknown ≡ false) × (btree_set_len self.now.files ≡ 0) × (btree_set_len self.now.directories ≡ 0)) }
@@ -93,6 +105,10 @@ impl Unsynced {
         ensures marked { OnOk result ((marks_of self.new).files path.now ≡ true) }
         ensures more { AreWithin (marks_of self.old) (marks_of self.new) }
     {
+        // of what is unknown everything is marked
+        if self.is_unknown {
+            return Ok(());
+        }
         mark(&mut self.files, path)
     }
 
@@ -101,6 +117,9 @@ impl Unsynced {
         ensures marked { OnOk result ((marks_of self.new).directories path.now ≡ true) }
         ensures more { AreWithin (marks_of self.old) (marks_of self.new) }
     {
+        if self.is_unknown {
+            return Ok(());
+        }
         mark(&mut self.directories, path)
     }
 
