@@ -6,6 +6,7 @@ use crate::dump::{DumpSource, History, open};
 use crate::fault::Fault;
 use crate::progress::Progress;
 use crate::url::address_of;
+use crate::writing::folder_to_write;
 use std::alloc::Global;
 use std::fs;
 use std::fs::File;
@@ -15,7 +16,7 @@ use std::rt::{Clock, Files};
 use std::thread::Threads;
 use svn_disk::{Checkout, check_out, inherited_props, refuse_check_out, refuse_reserved};
 use svn_editor::PathWord;
-use svn_folder::{DiskFolder, Locks, SyncedFolder};
+use svn_folder::{DiskFolder, FileMaker, Locks};
 use svn_types::{RelPath, Rev};
 use svn_wc::{WcFault, WorkingCopy};
 
@@ -65,7 +66,15 @@ fn tell<T: Files<File = File> + Threads + Locks + Print + AllocGlobal>(
 
 /// Makes a working copy, and says of which revision it is; or says what would be made.
 pub(crate) fn make<
-    T: Files<File = File> + Threads + Locks + Input + Print + Eprint + Clock + AllocGlobal,
+    T: Files<File = File>
+        + Threads
+        + Locks
+        + FileMaker
+        + Input
+        + Print
+        + Eprint
+        + Clock
+        + AllocGlobal,
 >(rt: &T, words: &command_line::Checkout<'_>) -> Result<(), Fault> {
     let alloc = rt.alloc();
     let address = address_of(alloc, words)?;
@@ -80,8 +89,7 @@ pub(crate) fn make<
     }
     let inherited = inherited_props(alloc, &history.repo, rev, &address.path)?;
     make_folder(rt, words.folder)?;
-    let folder = DiskFolder::new(rt, PathBuf::from_str(alloc, words.folder)?);
-    let mut folder = SyncedFolder::new(alloc, folder);
+    let mut folder = folder_to_write(rt, words.folder, !words.no_sync)?;
     let url = address.root.as_bytes();
     let uuid = history.uuid.as_slice();
     let inherited = inherited.as_deref();

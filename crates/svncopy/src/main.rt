@@ -16,6 +16,7 @@ mod resume;
 mod root;
 mod update;
 mod url;
+mod writing;
 
 use crate::checkout::make;
 use crate::command_line::{Request, Resume, UpdateWords, request_of};
@@ -31,7 +32,7 @@ use std::process::ExitCode;
 use std::rt::{Clock, Files};
 use std::sync::Wait;
 use std::thread::Threads;
-use svn_folder::Locks;
+use svn_folder::{FileMaker, Locks};
 
 // The words of the command line; the first is the program's name.
 fn words(rt: &(impl Env + AllocGlobal)) -> Result<Vec<String>, Fault> {
@@ -76,6 +77,7 @@ fn answer<
     T: Files<File = File>
         + Threads
         + Locks
+        + FileMaker
         + Wait
         + Sync
         + Input
@@ -107,6 +109,7 @@ fn run<
     T: Files<File = File>
         + Threads
         + Locks
+        + FileMaker
         + Wait
         + Sync
         + Input

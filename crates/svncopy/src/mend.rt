@@ -6,6 +6,7 @@ use crate::dump::{DumpSource, open};
 use crate::fault::Fault;
 use crate::progress::Progress;
 use crate::refusing::refuse;
+use crate::writing::folder_to_write;
 use std::fs::File;
 use std::path::PathBuf;
 use std::process::ExitCode;
@@ -13,7 +14,7 @@ use std::rt::{Clock, Files};
 use std::thread::Threads;
 use svn_disk::{Change, PathChange, Remedy, Source, mend, mend_changes};
 use svn_editor::PathWord;
-use svn_folder::{DiskFolder, Locks, SyncedFolder};
+use svn_folder::{DiskFolder, FileMaker, Locks};
 
 // What becomes of a path, in a word.
 fn word_of(change: Change) -> &'static str {
@@ -63,7 +64,7 @@ struct Mending<'a, T> {
     dry_run: bool,
 }
 
-impl<T: Files<File = File> + Threads + Locks + Print + AllocGlobal> Mending<'_, T> {
+impl<T: Files<File = File> + Threads + Locks + FileMaker + Print + AllocGlobal> Mending<'_, T> {
     // Says what would be done with a copy.
     fn tell(&self, word: &str) -> Result<(), Fault> {
         let alloc = self.rt.alloc();
@@ -80,10 +81,8 @@ impl<T: Files<File = File> + Threads + Locks + Print + AllocGlobal> Mending<'_, 
         if self.dry_run {
             return self.tell(word);
         }
-        let alloc = self.rt.alloc();
-        let folder = DiskFolder::new(self.rt, PathBuf::from_str(alloc, word)?);
-        let mut folder = SyncedFolder::new(alloc, folder);
-        let changes = mend(alloc, &mut folder, source, self.what)?;
+        let mut folder = folder_to_write(self.rt, word, self.what.sync)?;
+        let changes = mend(self.rt.alloc(), &mut folder, source, self.what)?;
         if changes.is_empty() {
             return print_true(self.rt, word);
         }
@@ -92,11 +91,10 @@ impl<T: Files<File = File> + Threads + Locks + Print + AllocGlobal> Mending<'_, 
 }
 
 // Mends each copy in turn; one that is refused doesn't keep the others from it.
-fn mend_each<T: Files<File = File> + Threads + Locks + Print + Eprint + AllocGlobal, S: Source>(
-    mending: &Mending<'_, T>,
-    source: &mut S,
-    folders: &[&str],
-) -> ExitCode {
+fn mend_each<
+    T: Files<File = File> + Threads + Locks + FileMaker + Print + Eprint + AllocGlobal,
+    S: Source,
+>(mending: &Mending<'_, T>, source: &mut S, folders: &[&str]) -> ExitCode {
     let mut status = ExitCode::SUCCESS;
     for folder in folders {
         if let Err(fault) = mending.mend(source, folder) {
@@ -108,7 +106,15 @@ fn mend_each<T: Files<File = File> + Threads + Locks + Print + Eprint + AllocGlo
 
 /// Mends copies by a dump, which is read once for all of them. A refusal that is about the dump is returned, and then nothing was done.
 pub(crate) fn mend_all<
-    T: Files<File = File> + Threads + Locks + Input + Print + Eprint + Clock + AllocGlobal,
+    T: Files<File = File>
+        + Threads
+        + Locks
+        + FileMaker
+        + Input
+        + Print
+        + Eprint
+        + Clock
+        + AllocGlobal,
 >(rt: &T, words: &command_line::Mend<'_>) -> Result<ExitCode, Fault> {
     let alloc = rt.alloc();
     let beside = words.folders.first().copied().unwrap_or(".");

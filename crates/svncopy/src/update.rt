@@ -8,6 +8,7 @@ use crate::lines::{print_all, print_header};
 use crate::progress::Progress;
 use crate::root::Root;
 use crate::url::switched_to;
+use crate::writing::folder_to_write;
 use std::fs::File;
 use std::io::{Read, Seek};
 use std::path::PathBuf;
@@ -16,7 +17,7 @@ use std::sync::Wait;
 use std::thread::Threads;
 use svn_disk::Existing;
 use svn_disk_update::{Aim, Updated, update, would_update};
-use svn_folder::{DiskFolder, Locks, SyncedFolder};
+use svn_folder::{DiskFolder, FileMaker, Locks};
 use svn_run::Options;
 use svn_types::RelPath;
 
@@ -58,7 +59,7 @@ fn read<T: Files<File = File> + Threads + Locks + AllocGlobal>(
 
 // Updates or switches the copy as it was read, or says what that would do.
 fn bring<
-    T: Files<File = File> + Threads + Locks + Wait + Sync + Clock + AllocGlobal,
+    T: Files<File = File> + Threads + Locks + FileMaker + Wait + Sync + Clock + AllocGlobal,
     R: Read + Seek + Drop,
 >(
     rt: &T,
@@ -80,11 +81,10 @@ fn bring<
         time: now(rt)?,
         sync: !words.no_sync,
     };
-    let folder = folder_of(rt, &copy.root)?;
     if words.dry_run {
-        return Ok(would_update(rt, alloc, &folder, &what)?);
+        return Ok(would_update(rt, alloc, &folder_of(rt, &copy.root)?, &what)?);
     }
-    let mut folder = SyncedFolder::new(alloc, folder);
+    let mut folder = folder_to_write(rt, copy.root.folder.as_str(), what.sync)?;
     let mut source = DumpSource::new(history, texts);
     Ok(update(rt, alloc, &mut folder, &mut source, &what)?)
 }
@@ -94,6 +94,7 @@ fn go<
     T: Files<File = File>
         + Threads
         + Locks
+        + FileMaker
         + Wait
         + Sync
         + Input
@@ -113,6 +114,7 @@ pub(crate) fn update_copy<
     T: Files<File = File>
         + Threads
         + Locks
+        + FileMaker
         + Wait
         + Sync
         + Input
@@ -132,6 +134,7 @@ pub(crate) fn switch_copy<
     T: Files<File = File>
         + Threads
         + Locks
+        + FileMaker
         + Wait
         + Sync
         + Input
