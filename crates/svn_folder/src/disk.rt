@@ -215,6 +215,11 @@ impl<'a, T: Files<File = File> + Threads + AllocGlobal> DiskFolder<'a, T> {
         }
     }
 
+    /// Whether anything is at a path of the system.
+    pub(crate) fn is_there(&self, place: &PathBuf) -> io::Result<bool> {
+        Ok(self.found(place)?.is_some())
+    }
+
     fn is_directory(&self, place: &PathBuf) -> io::Result<bool> {
         Ok(match self.found(place)? {
             Some(found) => found.is_dir(),

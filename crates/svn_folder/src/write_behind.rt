@@ -36,8 +36,9 @@ const MIN_SHARE: usize = 16;
 /// a file, waits in memory, up to 512 of them and 4 MiB in all, and then they are written by up to eight threads. A rename of a file that waits changes its
 /// path where the new one is free. Before a step of another kind, but for one that makes an entry elsewhere, and before a sync, all that waits is written.
 ///
-/// It shows each file as if it was written. An error of the system may come with a later step, and names the file. What waits is lost with the program, as it is
-/// with what isn't synced; [`finish`](WriteBehind::finish) writes it.
+/// It shows each file as if it was written. An error of the system at writing comes with a later step, and names the file; that something is there is said at
+/// once. What waits is lost with the program, as what isn't synced is with the power, and some of it where an allocation fails;
+/// [`finish`](WriteBehind::finish) writes it.
 #[derive(Drop)]
 pub struct WriteBehind<'a, T> {
     rt: &'a T,
@@ -119,6 +120,11 @@ impl<'a, T: Files<File = File> + Threads + Locks + FileMaker + AllocGlobal> Writ
         }
     }
 
+    // Whether nothing is at a path of the system.
+    fn is_free(&self, place: &PathBuf) -> bool {
+        matches!(self.disk.is_there(place), Ok(false))
+    }
+
     // Lets a file wait, and writes all if that is enough.
     fn add(
         &mut self,
@@ -127,8 +133,12 @@ impl<'a, T: Files<File = File> + Threads + Locks + FileMaker + AllocGlobal> Writ
         mode: Mode,
         modified: Option<u64>,
     ) -> Result<(), FolderFault> {
-        self.bytes = self.bytes.saturating_add(bytes.as_slice().len());
         let place = self.disk.place(path)?;
+        if !self.is_free(&place) {
+            // so that the system says at once why it can't be made
+            return self.disk.take(make_step(path, bytes, mode, modified)?);
+        }
+        self.bytes = self.bytes.saturating_add(bytes.as_slice().len());
         let file = NewFile {
             path: path.clone()?,
             place,
@@ -151,10 +161,11 @@ impl<'a, T: Files<File = File> + Threads + Locks + FileMaker + AllocGlobal> Writ
 
     // Gives a file that waits another path, if nothing is there; whether it did.
     fn rename_waiting(&mut self, from: &RelPath, to: &RelPath) -> Result<bool, FolderFault> {
-        if self.waits(to) || self.disk.look(self.rt.alloc(), to)?.is_some() {
+        let place = self.disk.place(to)?;
+        if self.waits(to) || !self.is_free(&place) {
             return Ok(false);
         }
-        let place = self.disk.place(to)?;
+        let (path, key) = (to.clone()?, to.clone()?);
         let Some(file) = self.waiting.remove(from) else {
             return Ok(false);
         };
@@ -165,13 +176,13 @@ impl<'a, T: Files<File = File> + Threads + Locks + FileMaker + AllocGlobal> Writ
             ..
         } = file;
         let file = NewFile {
-            path: to.clone()?,
+            path,
             place,
             bytes,
             mode,
             modified,
         };
-        self.waiting.insert(to.clone()?, file)?;
+        self.waiting.insert(key, file)?;
         Ok(true)
     }
 
