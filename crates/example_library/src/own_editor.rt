@@ -51,15 +51,6 @@ fn drive_lines<R: Print>(
     }
 }
 
-fn print_end<R: Print>(rt: &R, end: DriveEnd, has_changed: bool, target: Rev) -> Result<()> {
-    let words = if has_changed { "Updated to" } else { "At" };
-    match end {
-        DriveEnd::Closed { .. } => println!(rt; "{words} revision {target}.")?,
-        DriveEnd::Cancelled { made } => println!(rt; "Stopped after {made} calls.")?,
-    }
-    Ok(())
-}
-
 // Drives the editor, and prints the outcome.
 fn finish<R: Print>(
     rt: &R,
@@ -73,7 +64,12 @@ fn finish<R: Print>(
     let end = drive_lines(alloc, repo, report, target, &mut editor);
     let has_changed = editor.has_changed;
     drop(editor);
-    print_end(rt, end?, has_changed, target)
+    match end? {
+        DriveEnd::Closed { .. } if has_changed => println!(rt; "Updated to revision {target}.")?,
+        DriveEnd::Closed { .. } => println!(rt; "At revision {target}.")?,
+        DriveEnd::Cancelled { made } => println!(rt; "Stopped after {made} calls.")?,
+    }
+    Ok(())
 }
 
 // Updates the copy, and prints the outcome.
@@ -90,18 +86,14 @@ fn update<R: Print>(
     finish(rt, alloc, repo, &report, target, applier)
 }
 
-fn print_truth<R: Print>(rt: &R, repo: &Repo, copy: &WorkingCopy) -> Result<()> {
-    if let Err(path) = copy.check_true(repo) {
-        println!(rt; "untrue: {path}")?;
-    }
-    Ok(())
-}
-
 /// Updates a copy of revision 1, and once more.
 pub(crate) fn run<R: Print>(rt: &R, alloc: Global) -> Result<()> {
     let repo = repository(alloc, &[FIRST, SECOND])?;
     let mut copy = WorkingCopy::checkout(alloc, &repo, Rev(1))?;
     update(rt, alloc, &repo, &mut copy, repo.latest())?;
     update(rt, alloc, &repo, &mut copy, repo.latest())?;
-    print_truth(rt, &repo, &copy)
+    if let Err(path) = copy.check_true(&repo) {
+        println!(rt; "untrue: {path}")?;
+    }
+    Ok(())
 }

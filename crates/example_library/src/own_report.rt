@@ -3,9 +3,7 @@
 use crate::history::{Row, Step, repository};
 use anyhow::Result;
 use std::alloc::Global;
-use yumbeltir::{
-    Recorder, RelPath, Repo, Report, Reporter, Request, Rev, check_report, drive_request,
-};
+use yumbeltir::{Recorder, RelPath, Report, Reporter, Request, Rev, check_report, drive_request};
 
 // The history that the client has parts of.
 const FIRST: &[Row] = &[
@@ -65,23 +63,19 @@ fn report(alloc: Global) -> Result<Report> {
     Ok(reporter.finish_report())
 }
 
-fn print_calls<R: Print>(rt: &R, alloc: Global, repo: &Repo, report: &Report) -> Result<()> {
-    let mut recorder = Recorder::new(alloc);
-    let request = Request::update(repo.latest());
-    drive_request(alloc, repo, report, &request, &mut recorder)?;
-    for call in recorder.calls() {
-        println!(rt; "{call}")?;
-    }
-    Ok(())
-}
-
 /// Prints the report, and the calls of the drive.
 pub(crate) fn run<R: Print>(rt: &R, alloc: Global) -> Result<()> {
     let repo = repository(alloc, &[FIRST, SECOND, THIRD])?;
     let report = report(alloc)?;
     print!(rt; "{report}")?;
-    match check_report(alloc, &repo, &report) {
-        Ok(()) => print_calls(rt, alloc, &repo, &report),
-        Err(fault) => Ok(println!(rt; "{}: {fault}", fault.name())?),
+    if let Err(fault) = check_report(alloc, &repo, &report) {
+        return Ok(println!(rt; "{}: {fault}", fault.name())?);
     }
+    let mut recorder = Recorder::new(alloc);
+    let request = Request::update(repo.latest());
+    drive_request(alloc, &repo, &report, &request, &mut recorder)?;
+    for call in recorder.calls() {
+        println!(rt; "{call}")?;
+    }
+    Ok(())
 }

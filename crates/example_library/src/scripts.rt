@@ -33,18 +33,14 @@ const WAYS: [(&str, Settings); 3] = [
     ),
 ];
 
-fn push_name(names: &mut Vec<String>, file: &str) -> Result<()> {
-    if let Some(name) = file.strip_suffix(".script") {
-        names.push(name.to_string(*names.allocator())?)?;
-    }
-    Ok(())
-}
-
 // The names of the scripts, without their endings, in order.
 fn script_names<R: Files + AllocGlobal + Clone + Drop>(rt: &R) -> Result<Vec<String>> {
     let mut names = Vec::new(rt.alloc());
     for entry in fs::read_dir(rt, ".")? {
-        push_name(&mut names, entry?.file_name())?;
+        let entry = entry?;
+        if let Some(name) = entry.file_name().strip_suffix(".script") {
+            names.push(name.to_string(rt.alloc())?)?;
+        }
     }
     names.sort()?;
     Ok(names)
@@ -62,41 +58,20 @@ fn output_of<R: Threads + Wait + Sync>(
     Ok(output)
 }
 
-// What a script does with what it must print.
-fn verb_of(output: &[u8], wanted: &[u8]) -> &'static str {
-    if output == wanted {
-        "prints its output"
-    } else {
-        "PRINTS SOMETHING ELSE"
-    }
-}
-
-fn file_of<R: Files + AllocGlobal>(rt: &R, name: &str, ending: &str) -> Result<Vec<u8>> {
-    let path = format!(in rt.alloc(); "{name}.{ending}")?;
-    Ok(fs::read(rt, path)?)
-}
-
-// Runs a script in one way.
-fn compare_in<R: AllocGlobal + Threads + Wait + Sync + Print>(
-    rt: &R,
-    name: &str,
-    (way, settings): &(&str, Settings),
-    (script, wanted): (&[u8], &[u8]),
-) -> Result<()> {
-    let output = output_of(rt, rt.alloc(), settings, script)?;
-    println!(rt; "{name} {} {way}", verb_of(&output, wanted))?;
-    Ok(())
-}
-
 // Runs a script in each way.
 fn compare<R: Files + AllocGlobal + Threads + Wait + Sync + Print>(
     rt: &R,
     name: &str,
 ) -> Result<()> {
-    let script = file_of(rt, name, "script")?;
-    let wanted = file_of(rt, name, "output")?;
-    for way in &WAYS {
-        compare_in(rt, name, way, (&script, &wanted))?;
+    let script = fs::read(rt, format!(in rt.alloc(); "{name}.script")?)?;
+    let wanted = fs::read(rt, format!(in rt.alloc(); "{name}.output")?)?;
+    for (way, settings) in &WAYS {
+        let output = output_of(rt, rt.alloc(), settings, &script)?;
+        if output == wanted {
+            println!(rt; "{name} prints its output {way}")?;
+        } else {
+            println!(rt; "{name} PRINTS SOMETHING ELSE {way}")?;
+        }
     }
     Ok(())
 }

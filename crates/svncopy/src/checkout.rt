@@ -5,11 +5,11 @@ use crate::command_line;
 use crate::dump::{DumpSource, History, open};
 use crate::fault::Fault;
 use crate::progress::Progress;
-use crate::url::{Address, address_of};
+use crate::url::address_of;
 use std::alloc::Global;
 use std::fs;
 use std::fs::File;
-use std::io::{ErrorKind, Read, Seek};
+use std::io::ErrorKind;
 use std::path::PathBuf;
 use std::rt::{Clock, Files};
 use std::thread::Threads;
@@ -63,45 +63,6 @@ fn tell<T: Files<File = File> + Threads + Locks + Print + AllocGlobal>(
     Ok(())
 }
 
-// What a copy is made of.
-#[derive(Clone, Copy)]
-struct Found<'a> {
-    history: &'a History,
-    address: &'a Address<'a>,
-    rev: Rev,
-    copy: &'a WorkingCopy,
-}
-
-// Makes the copy in its folder.
-fn bring<T: Files<File = File> + Threads + Clock + AllocGlobal, R: Read + Seek + Drop>(
-    rt: &T,
-    words: &command_line::Checkout<'_>,
-    found: &Found<'_>,
-    texts: R,
-) -> Result<(), Fault> {
-    let alloc = rt.alloc();
-    let Found {
-        history,
-        address,
-        rev,
-        copy,
-    } = *found;
-    let inherited = inherited_props(alloc, &history.repo, rev, &address.path)?;
-    make_folder(rt, words.folder)?;
-    let folder = DiskFolder::new(rt, PathBuf::from_str(alloc, words.folder)?);
-    let mut folder = SyncedFolder::new(alloc, folder);
-    let what = Checkout {
-        url: address.root.as_bytes(),
-        uuid: history.uuid.as_slice(),
-        copy,
-        inherited: inherited.as_deref(),
-        time: now(rt)?,
-        sync: !words.no_sync,
-    };
-    let mut source = DumpSource::new(history, texts);
-    Ok(check_out(alloc, &mut folder, &mut source, &what)?)
-}
-
 /// Makes a working copy, and says of which revision it is; or says what would be made.
 pub(crate) fn make<
     T: Files<File = File> + Threads + Locks + Input + Print + Eprint + Clock + AllocGlobal,
@@ -117,13 +78,28 @@ pub(crate) fn make<
     if words.dry_run {
         return tell(rt, words.folder, &copy);
     }
-    let found = Found {
-        history: &history,
-        address: &address,
-        rev,
+    let inherited = inherited_props(alloc, &history.repo, rev, &address.path)?;
+    make_folder(rt, words.folder)?;
+    let folder = DiskFolder::new(rt, PathBuf::from_str(alloc, words.folder)?);
+    let mut folder = SyncedFolder::new(alloc, folder);
+    let url = address.root.as_bytes();
+    let uuid = history.uuid.as_slice();
+    let inherited = inherited.as_deref();
+    let time = now(rt)?;
+    let what = Checkout {
+        url,
+        uuid,
         copy: &copy,
+        inherited,
+        time,
+        sync: !words.no_sync,
     };
-    bring(rt, words, &found, texts)?;
+    check_out(
+        alloc,
+        &mut folder,
+        &mut DumpSource::new(&history, texts),
+        &what,
+    )?;
     match println!(rt; "Checked out revision {}.", rev.0) {
         Ok(()) => Ok(()),
         Err(_) => Err(Fault::Write),

@@ -2,7 +2,7 @@
 use std::alloc::{AllocError, Global};
 use std::process::Abort;
 use svn_script::{Command, LineFault, read_command};
-use svn_types::{RelPath, Rev};
+use svn_types::RelPath;
 
 fn depth(path: &RelPath) -> usize {
     path.components().len()
@@ -17,10 +17,6 @@ fn end_of(alloc: Global, cancel_after: Option<u64>, late: bool) -> Result<String
     }
 }
 
-fn told_switched(alloc: Global, at: usize, to: usize, rev: Rev) -> Result<String, AllocError> {
-    format!(in alloc; "switch {at} to {to} of {}", rev.0)
-}
-
 // What a command is, each path in it by the number of its names.
 fn told(alloc: Global, command: &Command) -> Result<String, AllocError> {
     match command {
@@ -32,7 +28,12 @@ fn told(alloc: Global, command: &Command) -> Result<String, AllocError> {
             path,
             repos_path,
             rev,
-        } => told_switched(alloc, depth(path), depth(repos_path), *rev),
+        } => format!(in alloc;
+            "switch {} to {} of {}",
+            depth(path),
+            depth(repos_path),
+            rev.0
+        ),
         Command::Forget { path } => format!(in alloc; "forget {}", depth(path)),
         Command::Report => String::from_str(alloc, "report"),
         Command::Show => String::from_str(alloc, "show"),
@@ -40,41 +41,30 @@ fn told(alloc: Global, command: &Command) -> Result<String, AllocError> {
     }
 }
 
-fn to(
-    alloc: Global,
-    word: &str,
-    rev: Rev,
-    (cancel_after, late): (Option<u64>, bool),
-) -> Result<String, AllocError> {
-    let end = end_of(alloc, cancel_after, late)?;
-    format!(in alloc; "{word} to {} {end}", rev.0)
-}
-
-fn told_switch(
-    alloc: Global,
-    depth: usize,
-    rev: Rev,
-    (cancel_after, late): (Option<u64>, bool),
-) -> Result<String, AllocError> {
-    let end = end_of(alloc, cancel_after, late)?;
-    format!(in alloc; "switch {depth} to {} {end}", rev.0)
-}
-
 // The same of a run, or of a drive, which isn't given up.
 fn told_run(alloc: Global, command: &Command) -> Result<String, AllocError> {
     match command {
-        Command::Drive { rev, late } => to(alloc, "drive", *rev, (None, *late)),
+        Command::Drive { rev, late } => {
+            let end = end_of(alloc, None, *late)?;
+            format!(in alloc; "drive to {} {end}", rev.0)
+        }
         Command::Update {
             rev,
             cancel_after,
             late,
-        } => to(alloc, "update", *rev, (*cancel_after, *late)),
+        } => {
+            let end = end_of(alloc, *cancel_after, *late)?;
+            format!(in alloc; "update to {} {end}", rev.0)
+        }
         Command::SwitchTo {
             repos_path,
             rev,
             cancel_after,
             late,
-        } => told_switch(alloc, depth(repos_path), *rev, (*cancel_after, *late)),
+        } => {
+            let end = end_of(alloc, *cancel_after, *late)?;
+            format!(in alloc; "switch {} to {} {end}", depth(repos_path), rev.0)
+        }
         _ => told(alloc, command),
     }
 }

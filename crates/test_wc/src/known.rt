@@ -55,50 +55,23 @@ enum Made {
     WithASwitch,
 }
 
-// Places a path of revision 1.
-fn place(alloc: Global, repo: &Repo, copy: &mut WorkingCopy, path: &str) -> Result<(), Fail> {
-    let path = RelPath::parse(alloc, path)?;
-    Ok(copy.place(repo, &path, Rev(1))?)
-}
-
-// Switches a path to one of revision 1.
-fn switch(
-    alloc: Global,
-    repo: &Repo,
-    copy: &mut WorkingCopy,
-    at: &str,
-    from: &RelPath,
-) -> Result<(), Fail> {
-    let at = RelPath::parse(alloc, at)?;
-    Ok(copy.switch(repo, &at, from, Rev(1))?)
-}
-
 fn placed(alloc: Global, repo: &Repo) -> Result<WorkingCopy, Fail> {
     let mut copy = WorkingCopy::checkout(alloc, repo, Rev(2))?;
-    place(alloc, repo, &mut copy, "f")?;
+    copy.place(repo, &RelPath::parse(alloc, "f")?, Rev(1))?;
     Ok(copy)
-}
-
-type Node = (RelPath, BaseNode);
-
-fn listed_root(alloc: Global) -> Result<Node, Fail> {
-    Ok((RelPath::root(alloc), directory(alloc, Rev(2))?))
-}
-
-fn listed_file(alloc: Global) -> Result<Node, Fail> {
-    Ok((RelPath::parse(alloc, "f")?, file(alloc, Rev(1), "f")?))
 }
 
 fn listed(alloc: Global) -> Result<WorkingCopy, Fail> {
     let mut nodes = Vec::new(alloc);
-    nodes.push(listed_root(alloc)?)?;
-    nodes.push(listed_file(alloc)?)?;
+    nodes.push((RelPath::root(alloc), directory(alloc, Rev(2))?))?;
+    nodes.push((RelPath::parse(alloc, "f")?, file(alloc, Rev(1), "f")?))?;
     Ok(WorkingCopy::from_nodes(alloc, nodes)?)
 }
 
 fn switched(alloc: Global, repo: &Repo) -> Result<WorkingCopy, Fail> {
     let mut copy = placed(alloc, repo)?;
-    switch(alloc, repo, &mut copy, "g", &RelPath::parse(alloc, "f")?)?;
+    let (at, from) = (RelPath::parse(alloc, "g")?, RelPath::parse(alloc, "f")?);
+    copy.switch(repo, &at, &from, Rev(1))?;
     Ok(copy)
 }
 
@@ -130,19 +103,15 @@ fn write_report(alloc: Global, copy: &mut WorkingCopy, out: &mut String) -> Resu
     Ok(())
 }
 
-fn write_reports(alloc: Global, copy: &mut WorkingCopy, out: &mut String) -> Result<(), Fail> {
-    write_report(alloc, copy, out)?;
-    update(alloc, copy)?;
-    write_report(alloc, copy, out)?;
-    write_report(alloc, copy, out)
-}
-
 // What a copy reports before an update, after it, and once more.
 fn reports(alloc: Global, made: Made) -> Result<String, Fail> {
     let repo = two_revisions(alloc)?;
     let mut copy = make(alloc, &repo, made)?;
     let mut out = String::new(alloc);
-    write_reports(alloc, &mut copy, &mut out)?;
+    write_report(alloc, &mut copy, &mut out)?;
+    update(alloc, &mut copy)?;
+    write_report(alloc, &mut copy, &mut out)?;
+    write_report(alloc, &mut copy, &mut out)?;
     Ok(out)
 }
 
@@ -169,16 +138,13 @@ fn reports_the_same_after_what_it_learned(rt: HostRuntime) -> Result<(), Fail> {
     Ok(())
 }
 
-fn shown_empty(alloc: Global) -> Result<String, Fail> {
-    let repo = Repo::new(alloc)?;
-    let copy = WorkingCopy::checkout(alloc, &repo, Rev(0))?;
-    Ok(format!(in alloc; "{copy:?}")?)
-}
-
 // As if it were derived on the allocator and the nodes.
 #[test]
 fn shows_its_nodes(rt: HostRuntime) -> Result<(), Fail> {
-    let found = shown_empty(rt.alloc())?;
+    let alloc = rt.alloc();
+    let repo = Repo::new(alloc)?;
+    let copy = WorkingCopy::checkout(alloc, &repo, Rev(0))?;
+    let found = format!(in alloc; "{copy:?}")?;
     assert_eq!(rt;
         found.as_str(),
         "WorkingCopy { alloc: Global, nodes: {[]: Dir { rev: Rev(0), repos_path: [], complete: true, props: Props { map: {} } }} }",
@@ -203,25 +169,15 @@ fn push_directory(alloc: Global, names: usize, changes: &mut Vec<Change>) -> Res
     Ok(())
 }
 
-fn deep_file(alloc: Global, text: &str) -> Result<Change, Fail> {
-    let mut path = chain(alloc, 17)?;
-    path.push_str("/f")?;
-    put(alloc, &path, text)
-}
-
-fn deep_changes(alloc: Global, text: &str) -> Result<Vec<Change>, Fail> {
+// A chain of 17 directories, with a file in the last.
+fn deep_repo(alloc: Global, text: &str) -> Result<Repo, Fail> {
+    let mut repo = Repo::new(alloc)?;
     let mut changes = Vec::new(alloc);
     for names in 1..18usize {
         push_directory(alloc, names, &mut changes)?;
     }
-    changes.push(deep_file(alloc, text)?)?;
-    Ok(changes)
-}
-
-// A chain of 17 directories, with a file in the last.
-fn deep_repo(alloc: Global, text: &str) -> Result<Repo, Fail> {
-    let mut repo = Repo::new(alloc)?;
-    repo.commit(&deep_changes(alloc, text)?)?;
+    changes.push(put(alloc, &format!(in alloc; "{}/f", chain(alloc, 17)?)?, text)?)?;
+    repo.commit(&changes)?;
     Ok(repo)
 }
 
@@ -229,8 +185,8 @@ fn deep_repo(alloc: Global, text: &str) -> Result<Repo, Fail> {
 fn deep_copy(alloc: Global, repo: &Repo) -> Result<WorkingCopy, Fail> {
     let root = RelPath::parse(alloc, &chain(alloc, 17)?)?;
     let mut copy = WorkingCopy::checkout_at(alloc, repo, &root, Rev(1))?;
-    place(alloc, repo, &mut copy, "f")?;
-    switch(alloc, repo, &mut copy, "g", &root)?;
+    copy.place(repo, &RelPath::parse(alloc, "f")?, Rev(1))?;
+    copy.switch(repo, &RelPath::parse(alloc, "g")?, &root, Rev(1))?;
     Ok(copy)
 }
 
@@ -242,11 +198,17 @@ fn shown(alloc: Global) -> Result<String, Fail> {
     Ok(out)
 }
 
+fn wanted(alloc: Global) -> Result<String, Fail> {
+    let root = chain(alloc, 17)?;
+    let mut out = format!(in alloc; ". dir 1 {root}\nf file 1 {root}/f a\n")?;
+    write!(out, "g dir 1 {root}\ng/f file 1 {root}/f a\n")?;
+    write!(out, "root {root}\nset . 1\nlink g {root} 1\n")?;
+    Ok(out)
+}
+
 #[test]
 fn places_and_switches_below_a_deep_root(rt: HostRuntime) -> Result<(), Fail> {
-    const WANTED: &str =
-        ". dir 1 d/d/d/d/d/d/d/d/d/d/d/d/d/d/d/d/d\nf file 1 d/d/d/d/d/d/d/d/d/d/d/d/d/d/d/d/d/f a\ng dir 1 d/d/d/d/d/d/d/d/d/d/d/d/d/d/d/d/d\ng/f file 1 d/d/d/d/d/d/d/d/d/d/d/d/d/d/d/d/d/f a\nroot d/d/d/d/d/d/d/d/d/d/d/d/d/d/d/d/d\nset . 1\nlink g d/d/d/d/d/d/d/d/d/d/d/d/d/d/d/d/d 1\n";
     let found = shown(rt.alloc())?;
-    assert_eq!(rt; found.as_str(), WANTED);
+    assert_eq!(rt; found.as_str(), wanted(rt.alloc())?.as_str());
     Ok(())
 }
