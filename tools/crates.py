@@ -7,8 +7,6 @@ import subprocess
 import sys
 
 TOP = os.path.dirname(os.path.dirname(os.path.abspath(__file__)))
-# What a check may take, in kB. None was seen to take more; rt counts on nearly twice as much, and would leave processors idle.
-MEMORY = 4_000_000
 
 
 def read_lines():
@@ -63,17 +61,11 @@ def processors():
         return found
 
 
-def lanes():
-    """How many checks run side by side: one a processor, as many as memory holds."""
-    with open("/proc/meminfo", encoding="utf-8") as file:
-        free = int(re.search(r"MemAvailable:\s+(\d+)", file.read())[1])
-    return max(1, min(processors(), free // MEMORY))
-
-
 def run_ci(top):
     """Runs `rt ci` (by kit.py) in a copy of the repository, passes on what it prints, and returns how many crates passed and failed."""
     passed, failed = 0, 1
-    environment = {"RT_JOBS": str(lanes()), **os.environ}
+    # (one job for each check: several jobs prove some things twice)
+    environment = {"RT_JOBS": str(processors()), **os.environ}
     how = {"stdout": subprocess.PIPE, "stderr": subprocess.STDOUT, "text": True, "errors": "replace", "start_new_session": True}
     with subprocess.Popen([sys.executable, f"{TOP}/tools/kit.py", "ci"], cwd=top, env=environment, **how) as run:
         try:

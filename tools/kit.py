@@ -3,8 +3,9 @@
     python3 tools/kit.py WORD..
 
 It runs rt with these words. It is rt as it is, but the sum of a crate's files and of all below it, by which rt knows a library that it proved, is computed
-once for each crate. rt computes it anew for each way that leads from crate to crate, thousands of times for those at the top. In a kit of another
-form it runs rt alone.
+once for each crate, and that a check begins only where there is memory for it beside the others. rt computes that sum anew for each way that leads from
+crate to crate, thousands of times for those at the top; and if it is told how many checks to run side by side (RT_JOBS), it counts no memory. In a kit
+of another form it runs rt alone.
 """
 import functools
 import importlib.machinery
@@ -14,17 +15,20 @@ import shutil
 import subprocess
 import sys
 
+from room import in_room, need
+
 # What comes of a program `rt` that isn't the Python that this knows.
 OTHER_FORM = (OSError, AttributeError, ImportError, SyntaxError, ValueError)
 
 
 def load():
-    """The program `rt`, as a module whose sums are computed once. One of OTHER_FORM where it can't be taken so."""
+    """The program `rt`, as a module whose sums are computed once, and whose checks share memory. One of OTHER_FORM where it can't be taken so."""
     at = os.path.realpath(shutil.which("rt") or "rt")
     loader = importlib.machinery.SourceFileLoader("rt_program", at)
     made = importlib.util.module_from_spec(importlib.util.spec_from_loader("rt_program", loader))
     loader.exec_module(made)
     made.rtlib.Crate.stamp = functools.cache(made.rtlib.Crate.stamp)
+    made.need, made.in_lanes = need, in_room(made.in_lanes)
     return made
 
 

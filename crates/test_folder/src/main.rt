@@ -6,7 +6,7 @@ mod several;
 mod tables;
 
 use anyhow::{Result, bail};
-use several::{do_all, do_and_finish, make_many, stop_between};
+use several::{do_all, do_and_finish, left_of, make_many, state_of, stop_between};
 use std::alloc::Global;
 use std::fs::File;
 use std::path::PathBuf;
@@ -66,26 +66,54 @@ fn names_in<F: Folder>(alloc: Global, folder: &F, path: &str) -> Result<String> 
     Ok(words)
 }
 
-// Fails where one folder shows something else than another at a path.
-fn compare_at<F: Folder, G: Folder>(
+fn is_entry_same<F: Folder, G: Folder>(
     alloc: Global,
     one: &F,
     other: &G,
     path: &str,
-    words: &str,
-) -> Result<()> {
-    if look(alloc, one, path)? != look(alloc, other, path)? {
-        bail!("{words}: another entry at `{path}`")
-    }
-    if sum(alloc, one, path)? != sum(alloc, other, path)? {
-        bail!("{words}: another summary at `{path}`")
-    }
-    if names_in(alloc, one, path)? != names_in(alloc, other, path)? {
-        bail!("{words}: other names in `{path}`")
-    }
-    Ok(())
+) -> Result<bool> {
+    let entry = look(alloc, one, path)?;
+    Ok(entry == look(alloc, other, path)?)
 }
 
+fn is_summary_same<F: Folder, G: Folder>(
+    alloc: Global,
+    one: &F,
+    other: &G,
+    path: &str,
+) -> Result<bool> {
+    let summary = sum(alloc, one, path)?;
+    Ok(summary == sum(alloc, other, path)?)
+}
+
+fn are_names_same<F: Folder, G: Folder>(
+    alloc: Global,
+    one: &F,
+    other: &G,
+    path: &str,
+) -> Result<bool> {
+    let names = names_in(alloc, one, path)?;
+    Ok(names == names_in(alloc, other, path)?)
+}
+
+// What one folder shows otherwise than another at a path, if anything.
+fn difference_at<F: Folder, G: Folder>(
+    alloc: Global,
+    one: &F,
+    other: &G,
+    path: &str,
+) -> Result<Option<&'static str>> {
+    if !is_entry_same(alloc, one, other, path)? {
+        return Ok(Some("another entry"));
+    }
+    if !is_summary_same(alloc, one, other, path)? {
+        return Ok(Some("another summary"));
+    }
+    let same = are_names_same(alloc, one, other, path)?;
+    Ok(if same { None } else { Some("other names") })
+}
+
+// Fails where one folder shows something else than another.
 pub(crate) fn compare<F: Folder, G: Folder>(
     alloc: Global,
     one: &F,
@@ -93,7 +121,9 @@ pub(crate) fn compare<F: Folder, G: Folder>(
     words: &str,
 ) -> Result<()> {
     for path in paths() {
-        compare_at(alloc, one, other, path, words)?;
+        if let Some(what) = difference_at(alloc, one, other, path)? {
+            bail!("{words}: {what} at `{path}`")
+        }
     }
     Ok(())
 }
@@ -126,14 +156,17 @@ fn tried<R: Files<File = File> + Threads + Locks + AllocGlobal>(
     Ok(DiskFolder::new(rt, PathBuf::from_str(rt.alloc(), TRIED)?))
 }
 
-fn try_both<R: Files<File = File> + Threads + Locks + Print + AllocGlobal>(rt: &R) -> Result<()> {
+fn take_all<R: Print + AllocGlobal, G: Folder>(rt: &R, disk: &mut G) -> Result<()> {
     let mut memory = MemoryFolder::new(rt.alloc());
-    let mut disk = SyncedFolder::new(rt.alloc(), tried(rt)?);
     for act in acts() {
-        take_both(rt, &mut memory, &mut disk, *act)?;
+        take_both(rt, &mut memory, disk, *act)?;
     }
-    let mut disk = SyncedFolder::new(rt.alloc(), tried(rt)?);
-    do_all(rt, &mut disk)?;
+    Ok(())
+}
+
+fn try_both<R: Files<File = File> + Threads + Locks + Print + AllocGlobal>(rt: &R) -> Result<()> {
+    take_all(rt, &mut SyncedFolder::new(rt.alloc(), tried(rt)?))?;
+    do_all(rt, &mut SyncedFolder::new(rt.alloc(), tried(rt)?))?;
     std::fs::remove_dir_all(rt, TRIED)?;
     Ok(())
 }
@@ -165,19 +198,26 @@ fn words_of(alloc: Global, entry: Option<Entry>) -> Result<String> {
     })
 }
 
-// Prints what is left of a replacement that stops after so many steps.
-fn stop<R: Print + AllocGlobal>(rt: &R, limit: u64) -> Result<()> {
-    let alloc = rt.alloc();
-    let mut folder = StoppedFolder::new(MemoryFolder::new(alloc), limit);
+// How many steps of a replacement are refused.
+fn refused_of<F: Folder>(alloc: Global, folder: &mut F) -> Result<u64> {
     let mut refused = 0u64;
     for act in replaced() {
-        let (taken, _) = told(alloc, &mut folder, *act)?;
-        if !taken {
-            refused = refused.saturating_add(1);
-        }
+        let (taken, _) = told(alloc, folder, *act)?;
+        refused = refused.saturating_add(u64::from(!taken));
     }
-    let file = words_of(alloc, look(alloc, &folder, "f")?)?;
-    let other = words_of(alloc, look(alloc, &folder, "t")?)?;
+    Ok(refused)
+}
+
+fn words_at<F: Folder>(alloc: Global, folder: &F, path: &str) -> Result<String> {
+    words_of(alloc, look(alloc, folder, path)?)
+}
+
+// Prints what is left of a replacement that stops after so many steps.
+fn stop<R: Print + AllocGlobal>(rt: &R, limit: u64) -> Result<()> {
+    let mut folder = StoppedFolder::new(MemoryFolder::new(rt.alloc()), limit);
+    let refused = refused_of(rt.alloc(), &mut folder)?;
+    let file = words_at(rt.alloc(), &folder, "f")?;
+    let other = words_at(rt.alloc(), &folder, "t")?;
     println!(rt; "stopped after {limit}: {refused} refused; f: {file}, t: {other}")?;
     Ok(())
 }
@@ -210,13 +250,11 @@ fn crash<R: Print + AllocGlobal>(
     rt: &R,
     folder: &mut MemoryFolder,
     act: Act,
-    (one, other): (&str, &str),
+    paths: (&str, &str),
 ) -> Result<()> {
-    let alloc = rt.alloc();
-    let (_, words) = told(alloc, folder, act)?;
-    let left = left_words(alloc, folder, one)?;
-    let right = left_words(alloc, folder, other)?;
-    println!(rt; "{words}; after a crash {one}: {left}; {other}: {right}")?;
+    let (_, words) = told(rt.alloc(), folder, act)?;
+    let left = left_of(rt.alloc(), folder, paths)?;
+    println!(rt; "{words}; after a crash {left}")?;
     Ok(())
 }
 
@@ -235,12 +273,7 @@ fn keep<R: Print + AllocGlobal, F: Folder>(
     act: Act,
 ) -> Result<()> {
     let (_, words) = told(rt.alloc(), folder, act)?;
-    let state = if folder.is_synced() {
-        "synced"
-    } else {
-        "not synced"
-    };
-    println!(rt; "{words}: {state}")?;
+    println!(rt; "{words}: {}", state_of(folder))?;
     Ok(())
 }
 
@@ -252,23 +285,40 @@ fn keep_in<R: Print + AllocGlobal>(rt: &R, acts: &[Act]) -> Result<()> {
     Ok(())
 }
 
+fn try_crashes<R: Print + AllocGlobal>(rt: &R) -> Result<()> {
+    crash_in(rt, replaced(), ("f", "t"))?;
+    crash_in(rt, careless(), ("f", "t"))?;
+    crash_in(rt, moved(), ("f/x", "t/x"))
+}
+
+fn try_syncs<R: Print + AllocGlobal>(rt: &R) -> Result<()> {
+    keep_in(rt, synced())?;
+    keep_in(rt, lost())?;
+    do_and_finish(rt, unsynced())?;
+    do_and_finish(rt, refused())?;
+    do_and_finish(rt, renamed())
+}
+
+fn try_stops<R: Print + AllocGlobal>(rt: &R) -> Result<()> {
+    for limit in 0..=6 {
+        stop(rt, limit)?;
+    }
+    Ok(())
+}
+
+fn try_stops_between<R: Print + AllocGlobal>(rt: &R) -> Result<()> {
+    for limit in 2..=4 {
+        stop_between(rt, limit)?;
+    }
+    Ok(())
+}
+
 fn main(rt: HostRuntime) -> Result<()> {
     try_both(&rt)?;
-    for limit in 0..=6 {
-        stop(&rt, limit)?;
-    }
-    crash_in(&rt, replaced(), ("f", "t"))?;
-    crash_in(&rt, careless(), ("f", "t"))?;
-    crash_in(&rt, moved(), ("f/x", "t/x"))?;
-    keep_in(&rt, synced())?;
-    keep_in(&rt, lost())?;
-    do_and_finish(&rt, unsynced())?;
-    do_and_finish(&rt, refused())?;
-    do_and_finish(&rt, renamed())?;
-    for limit in 2..=4 {
-        stop_between(&rt, limit)?;
-    }
+    try_stops(&rt)?;
+    try_crashes(&rt)?;
+    try_syncs(&rt)?;
+    try_stops_between(&rt)?;
     make_many(&rt)?;
-    try_locks(&rt)?;
-    Ok(())
+    try_locks(&rt)
 }

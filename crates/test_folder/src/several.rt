@@ -96,19 +96,27 @@ pub(crate) fn do_all<R: Print + AllocGlobal, G: Folder>(
     finish(rt, disk)
 }
 
-// Brings all to the disk, and prints whether it is there.
-fn finish<R: Print + AllocGlobal, F: Folder>(rt: &R, folder: &mut SyncedFolder<F>) -> Result<()> {
-    let alloc = rt.alloc();
-    let words = match folder.sync_all(alloc) {
-        Ok(()) => String::from_str(alloc, "sync all")?,
-        Err(fault) => format!(in alloc; "sync all: {fault}")?,
-    };
-    let state = if folder.is_synced() {
+/// Whether all is on the disk, in words.
+pub(crate) fn state_of<F: Folder>(folder: &SyncedFolder<F>) -> &'static str {
+    if folder.is_synced() {
         "synced"
     } else {
         "not synced"
-    };
-    println!(rt; "{words}: {state}")?;
+    }
+}
+
+// Brings all to the disk, in words.
+fn synced_all<F: Folder>(alloc: Global, folder: &mut SyncedFolder<F>) -> Result<String> {
+    Ok(match folder.sync_all(alloc) {
+        Ok(()) => String::from_str(alloc, "sync all")?,
+        Err(fault) => format!(in alloc; "sync all: {fault}")?,
+    })
+}
+
+// Brings all to the disk, and prints whether it is there.
+fn finish<R: Print + AllocGlobal, F: Folder>(rt: &R, folder: &mut SyncedFolder<F>) -> Result<()> {
+    let words = synced_all(rt.alloc(), folder)?;
+    println!(rt; "{words}: {}", state_of(folder))?;
     Ok(())
 }
 
@@ -123,39 +131,57 @@ pub(crate) fn do_and_finish<R: Print + AllocGlobal>(rt: &R, deeds: &[Deed]) -> R
     finish(rt, &mut folder)
 }
 
+// Syncs two files, in words.
+fn sync_two<F: Folder>(alloc: Global, folder: &mut F) -> Result<String> {
+    perform(alloc, folder, Deed::Pieces("f", "old"))?;
+    perform(alloc, folder, Deed::Pieces("t", "new"))?;
+    let (_, words) = told(alloc, folder, Deed::Sync(&["f", "t"]))?;
+    Ok(words)
+}
+
+/// What a crash may leave at two paths, in words.
+pub(crate) fn left_of(
+    alloc: Global,
+    folder: &MemoryFolder,
+    (one, other): (&str, &str),
+) -> Result<String> {
+    let left = left_words(alloc, folder, one)?;
+    let right = left_words(alloc, folder, other)?;
+    Ok(format!(in alloc; "{one}: {left}; {other}: {right}")?)
+}
+
 /// Syncs two files in a folder that takes so many steps, and prints what a crash may leave of them.
 pub(crate) fn stop_between<R: Print + AllocGlobal>(rt: &R, limit: u64) -> Result<()> {
-    let alloc = rt.alloc();
-    let mut folder = StoppedFolder::new(MemoryFolder::new(alloc), limit);
-    perform(alloc, &mut folder, Deed::Pieces("f", "old"))?;
-    perform(alloc, &mut folder, Deed::Pieces("t", "new"))?;
-    let (_, words) = told(alloc, &mut folder, Deed::Sync(&["f", "t"]))?;
-    let one = left_words(alloc, &folder.folder, "f")?;
-    let other = left_words(alloc, &folder.folder, "t")?;
-    println!(rt; "stopped after {limit}: {words}; after a crash f: {one}; t: {other}")?;
+    let mut folder = StoppedFolder::new(MemoryFolder::new(rt.alloc()), limit);
+    let words = sync_two(rt.alloc(), &mut folder)?;
+    let left = left_of(rt.alloc(), &folder.folder, ("f", "t"))?;
+    println!(rt; "stopped after {limit}: {words}; after a crash {left}")?;
     Ok(())
 }
 
-// Makes a file and brings it to the disk.
-fn make_synced(alloc: Global, folder: &mut MemoryFolder, path: &str) -> Result<()> {
-    make_in_pieces(alloc, folder, path, "text")?;
-    sync(alloc, folder, &[path])?;
+// Makes a file of that number in `a`, and brings it to the disk.
+fn make_synced(alloc: Global, folder: &mut MemoryFolder, number: u64) -> Result<()> {
+    let path = format!(in alloc; "a/{number}")?;
+    make_in_pieces(alloc, folder, &path, "text")?;
+    sync(alloc, folder, &[path.as_str()])?;
     folder.take(step_of(alloc, Act::SyncDirectory("a"))?)?;
+    Ok(())
+}
+
+fn fill(alloc: Global, folder: &mut MemoryFolder) -> Result<()> {
+    perform(alloc, folder, Deed::Step(Act::Directory("a")))?;
+    perform(alloc, folder, Deed::Step(Act::SyncDirectory("")))?;
+    for number in 0..MANY {
+        make_synced(alloc, folder, number)?;
+    }
     Ok(())
 }
 
 /// Makes many files, and prints what a crash may leave of the first and the last of them.
 pub(crate) fn make_many<R: Print + AllocGlobal>(rt: &R) -> Result<()> {
-    let alloc = rt.alloc();
-    let mut folder = MemoryFolder::new(alloc);
-    perform(alloc, &mut folder, Deed::Step(Act::Directory("a")))?;
-    perform(alloc, &mut folder, Deed::Step(Act::SyncDirectory("")))?;
-    for number in 0..MANY {
-        let path = format!(in alloc; "a/{number}")?;
-        make_synced(alloc, &mut folder, &path)?;
-    }
-    let first = left_words(alloc, &folder, "a/0")?;
-    let last = left_words(alloc, &folder, "a/39")?;
-    println!(rt; "after a crash a/0: {first}; a/39: {last}")?;
+    let mut folder = MemoryFolder::new(rt.alloc());
+    fill(rt.alloc(), &mut folder)?;
+    let left = left_of(rt.alloc(), &folder, ("a/0", "a/39"))?;
+    println!(rt; "after a crash {left}")?;
     Ok(())
 }

@@ -25,21 +25,39 @@ fn word(text: &str, out: &mut String) -> Result<(), Fail> {
     Ok(())
 }
 
-fn look(alloc: Global, open: &Transaction, path: &str, out: &mut String) -> Result<(), Fail> {
-    let path = RelPath::parse(alloc, path)?;
-    match open.kind(&path) {
-        None => word("none", out)?,
-        Some(Kind::File) => word("file ", out)?,
-        Some(Kind::Directory) => word("directory", out)?,
+fn kind_of(open: &Transaction, path: &RelPath) -> &'static str {
+    match open.kind(path) {
+        None => "none",
+        Some(Kind::File) => "file ",
+        Some(Kind::Directory) => "directory",
     }
-    if let Some(text) = open.text(&path) {
+}
+
+fn look_at_text(
+    alloc: Global,
+    open: &Transaction,
+    path: &RelPath,
+    out: &mut String,
+) -> Result<(), Fail> {
+    if let Some(text) = open.text(path) {
         let text = String::from_utf8_lossy(alloc, text.as_slice())?;
         word(text.as_str(), out)?;
     }
-    if let Some(props) = open.props(&path) {
+    Ok(())
+}
+
+fn look_at_props(open: &Transaction, path: &RelPath, out: &mut String) -> Result<(), Fail> {
+    if let Some(props) = open.props(path) {
         write!(out, " {}", props.len())?;
     }
     Ok(())
+}
+
+fn look(alloc: Global, open: &Transaction, path: &str, out: &mut String) -> Result<(), Fail> {
+    let path = RelPath::parse(alloc, path)?;
+    word(kind_of(open, &path), out)?;
+    look_at_text(alloc, open, &path, out)?;
+    look_at_props(open, &path, out)
 }
 
 fn change(

@@ -1,5 +1,5 @@
-//! Tests of runs: in turn and in two threads, stopped after every number of calls and made again; and of what is read of scripts: their faults,
-//! the commands that lines are, and the words of the command line.
+//! Tests of runs: in turn and in two threads, stopped after every number of calls and made again; of what is read of scripts: their faults, the
+//! commands that lines are, and the words of the command line; and of whole scripts (`whole_scripts`).
 #![tactic(auto)]
 
 #[cfg(test)]
@@ -22,3 +22,5 @@ mod script_forms;
 mod stops;
 #[cfg(test)]
 mod threads;
+#[cfg(test)]
+mod whole_scripts;

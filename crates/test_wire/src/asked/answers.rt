@@ -3,7 +3,8 @@ use crate::asked::items::item_of;
 use std::alloc::Global;
 use std::test::Fail;
 use svn_ask::{Said, Wanted, said_of};
-use svn_types::{Name, Props, Rev};
+use svn_types::{Digest, Kind, Name, Props, Rev};
+use svn_wire::Token;
 
 // What was asked of revision 3, the answer, and what it says. The first answers are `svnserve`'s.
 static ROWS: [(Wanted, &str, &str); 27] = [
@@ -144,32 +145,60 @@ fn push_names(names: &[Name], out: &mut String) -> Result<(), Fail> {
     Ok(())
 }
 
+fn push_file(alloc: Global, sum: &Digest, props: &Props, out: &mut String) -> Result<(), Fail> {
+    write!(out, "file {sum} ")?;
+    push_props(alloc, props, out)
+}
+
+fn push_directory(
+    alloc: Global,
+    props: &Props,
+    names: &[Name],
+    out: &mut String,
+) -> Result<(), Fail> {
+    out.push_str("directory ")?;
+    push_props(alloc, props, out)?;
+    out.push_str(": ")?;
+    push_names(names, out)
+}
+
+fn push_kind(kind: Kind, out: &mut String) -> Result<(), Fail> {
+    Ok(write!(out, "{kind}")?)
+}
+
+// The words of an answer that has not even a kind.
+fn words_of(said: &Said) -> &'static str {
+    match said {
+        Said::NoDirectory => "no directory",
+        Said::NoRevision => "no revision",
+        Said::Nothing | Said::OfKind(_) | Said::File { .. } | Said::Directory { .. } => "nothing",
+    }
+}
+
 pub fn push_said(alloc: Global, said: &Said, out: &mut String) -> Result<(), Fail> {
     match said {
-        Said::File { sum, props } => {
-            write!(out, "file {sum} ")?;
-            push_props(alloc, props, out)
-        }
-        Said::Directory { props, names } => {
-            write!(out, "directory ")?;
-            push_props(alloc, props, out)?;
-            write!(out, ": ")?;
-            push_names(names, out)
-        }
-        Said::OfKind(kind) => Ok(write!(out, "{kind}")?),
-        Said::Nothing => Ok(out.push_str("nothing")?),
-        Said::NoDirectory => Ok(out.push_str("no directory")?),
-        Said::NoRevision => Ok(out.push_str("no revision")?),
+        Said::File { sum, props } => push_file(alloc, sum, props, out),
+        Said::Directory { props, names } => push_directory(alloc, props, names, out),
+        Said::OfKind(kind) => push_kind(*kind, out),
+        Said::Nothing | Said::NoDirectory | Said::NoRevision => Ok(out.push_str(words_of(said))?),
+    }
+}
+
+fn push_answer(
+    alloc: Global,
+    wanted: Wanted,
+    item: &[Token],
+    out: &mut String,
+) -> Result<(), Fail> {
+    match said_of(alloc, wanted, Rev(3), item) {
+        Ok(said) => push_said(alloc, &said, out),
+        Err(fault) => Ok(write!(out, "{fault}")?),
     }
 }
 
 fn said(alloc: Global, wanted: Wanted, item: &str) -> Result<String, Fail> {
     let mut out = String::new(alloc);
-    let item = item_of(alloc, item)?;
-    match said_of(alloc, wanted, Rev(3), &item) {
-        Ok(said) => push_said(alloc, &said, &mut out)?,
-        Err(fault) => write!(out, "{fault}")?,
-    }
+    push_answer(alloc, wanted, &item_of(alloc, item)?, &mut out)?;
     Ok(out)
 }
 

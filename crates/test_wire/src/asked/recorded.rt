@@ -3,9 +3,10 @@ use crate::asked::talks::{
     Answers, LIMITS, Row, Talked, hear, paths_of, questions_of, speaker, talk,
 };
 use std::alloc::{AllocError, Global};
+use std::process::Abort;
 use std::str;
 use std::test::Fail;
-use svn_ask::{Asking, Questions, Wanted};
+use svn_ask::{Asking, Question, Questions, Wanted};
 
 // What `svnserve` 1.14.2 wrote to a client of `trunk` that asked these questions: up to the third answer, and the others.
 static FRONT: &str =
@@ -106,15 +107,24 @@ fn is_heard(text: &str) -> bool {
     }
 }
 
+// The whole connection, in pieces of that size.
+fn talk_in(alloc: Global, piece: usize) -> Result<Talked, Fail> {
+    let parts = [front().as_bytes(), rest().as_bytes()];
+    let pieces = in_pieces(alloc, &parts, piece)?;
+    talk(alloc, questions(), &pieces, piece == 7)
+}
+
+fn is_asked_and_answered(rt: &impl Abort, talked: &Talked) -> Result<(), Fail> {
+    assert_eq!(rt; str::from_utf8(&talked.written)?, client());
+    assert!(rt; is_heard(talked.heard.as_str()));
+    assert_eq!(rt; talked.fault.as_str(), "");
+    Ok(())
+}
+
 #[test]
 fn questions_are_asked_and_answered(rt: HostRuntime) -> Result<(), Fail> {
-    for piece in [1, 7, 1000000] {
-        let parts = [front().as_bytes(), rest().as_bytes()];
-        let pieces = in_pieces(rt.alloc(), &parts, piece)?;
-        let talked = talk(rt.alloc(), questions(), &pieces, piece == 7)?;
-        assert_eq!(rt; str::from_utf8(&talked.written)?, client());
-        assert!(rt; is_heard(talked.heard.as_str()));
-        assert_eq!(rt; talked.fault.as_str(), "");
+    for piece in &[1, 7, 1000000] {
+        is_asked_and_answered(&rt, &talk_in(rt.alloc(), *piece)?)?;
     }
     Ok(())
 }
@@ -136,13 +146,10 @@ fn split(bytes: &[u8], at: usize) -> (&[u8], &[u8]) {
     bytes.split_at(at)
 }
 
-// Cut off there: what is heard then, why it may not end, and what comes of the rest.
-fn cut_at(alloc: Global, at: usize) -> Result<(Talked, Talked), Fail> {
+// Cut off there, with these questions: what is heard then, why it may not end, and what comes of the rest.
+fn cut_at(alloc: Global, list: &[Question<'_>], at: usize) -> Result<(Talked, Talked), Fail> {
     let (front, rest) = split(front().as_bytes(), at);
-    let rows = first_rows();
-    let paths = paths_of(alloc, rows)?;
-    let list = questions_of(alloc, rows, &paths)?;
-    let mut questions = Questions::new(&list, false);
+    let mut questions = Questions::new(list, false);
     let mut asking = Asking::new(alloc, LIMITS, speaker(alloc)?);
     let mut answers = Answers::new(alloc);
     let first = hear(alloc, &mut asking, &[front], &mut questions, &mut answers)?;
@@ -150,14 +157,29 @@ fn cut_at(alloc: Global, at: usize) -> Result<(Talked, Talked), Fail> {
     Ok((first, more))
 }
 
+fn is_heard_in_part(rt: &impl Abort, first: &Talked) {
+    assert!(rt; heard().starts_with(first.heard.as_str()));
+    assert!(rt; first.fault.as_str().starts_with("the answers end "));
+}
+
+fn is_heard_then(rt: &impl Abort, more: &Talked) -> Result<(), Fail> {
+    assert_eq!(rt; more.heard.as_str(), heard());
+    assert_eq!(rt; more.fault.as_str(), "");
+    Ok(())
+}
+
+fn may_be_cut(rt: &impl Abort, alloc: Global, at: usize) -> Result<(), Fail> {
+    let paths = paths_of(alloc, first_rows())?;
+    let list = questions_of(alloc, first_rows(), &paths)?;
+    let (first, more) = cut_at(alloc, &list, at)?;
+    is_heard_in_part(rt, &first);
+    is_heard_then(rt, &more)
+}
+
 #[test]
 fn it_may_be_cut_anywhere(rt: HostRuntime) -> Result<(), Fail> {
     for at in 0..front().len() {
-        let (first, more) = cut_at(rt.alloc(), at)?;
-        assert!(rt; heard().starts_with(first.heard.as_str()));
-        assert!(rt; first.fault.as_str().starts_with("the answers end "));
-        assert_eq!(rt; more.heard.as_str(), heard());
-        assert_eq!(rt; more.fault.as_str(), "");
+        may_be_cut(&rt, rt.alloc(), at)?;
     }
     Ok(())
 }

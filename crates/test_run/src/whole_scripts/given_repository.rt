@@ -1,5 +1,5 @@
 // Scripts that begin with a repository that is given.
-use crate::scripts::{IN_TURN, MANY_CALLS, ScriptRun};
+use crate::whole_scripts::scripts::{IN_TURN, MANY_CALLS, ScriptRun};
 use std::alloc::Global;
 use std::process::Abort;
 use std::sync::Wait;

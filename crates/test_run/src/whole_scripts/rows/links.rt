@@ -1,5 +1,5 @@
 // Copies whose nodes are of several revisions, or of other paths of the repository.
-use crate::tables::{NOTHING, Part, Table};
+use crate::whole_scripts::tables::{NOTHING, Part, Table};
 
 pub(crate) static MIXED: Table = Table {
     before: NOTHING,

@@ -1,7 +1,7 @@
 // How many calls the edit of an update has: one for the target's number, one to open and one to close each directory that is touched, one to
 // add and one to close each that is new, for each touched or new file one to open or add it, one for its text where that is new or another,
 // and one to close it, one for each property that changes, one for each entry that goes, and one for the end.
-use crate::tables::{NOTHING, Table};
+use crate::whole_scripts::tables::{NOTHING, Table};
 
 // Files and directories that come, go and change.
 pub(crate) static TREES: Table = Table {

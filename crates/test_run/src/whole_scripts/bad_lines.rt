@@ -1,5 +1,5 @@
 // Lines that are no command: the script ends there with the line's number, and what the lines before printed stays written.
-use crate::scripts::{IN_TURN, MANY_CALLS, ends};
+use crate::whole_scripts::scripts::{IN_TURN, MANY_CALLS, ends};
 use std::alloc::{AllocError, Global};
 use std::process::Abort;
 use std::sync::Wait;

@@ -1,6 +1,6 @@
 // Readers and writers that fail at one of their calls, or give and take little at a time.
-use crate::rows::drives::{stored_output, stored_script};
-use crate::scripts::{MANY_CALLS, ScriptRun};
+use crate::whole_scripts::rows::drives::{stored_output, stored_script};
+use crate::whole_scripts::scripts::{MANY_CALLS, ScriptRun};
 use std::alloc::Global;
 use std::io;
 use std::io::{Read, Write};

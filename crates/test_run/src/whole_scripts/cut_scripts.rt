@@ -1,6 +1,6 @@
 // A script that is cut off at any byte gives the output of the lines before the cut. What is left of the line is a line of its own: without a
 // byte it does nothing, a command runs, and anything else is a bad line.
-use crate::scripts::{IN_TURN, ends};
+use crate::whole_scripts::scripts::{IN_TURN, ends};
 use std::alloc::AllocError;
 use std::process::Abort;
 use std::sync::Wait;

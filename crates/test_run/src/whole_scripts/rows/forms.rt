@@ -1,5 +1,5 @@
 // The forms that lines and words may have, and how bytes are printed.
-use crate::tables::{NOTHING, Table};
+use crate::whole_scripts::tables::{NOTHING, Table};
 
 // Words are decoded when they are read, and encoded when they are printed.
 pub(crate) static WORDS: Table = Table {

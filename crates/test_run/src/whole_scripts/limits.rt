@@ -1,5 +1,5 @@
 // What is too long, too deep or too many.
-use crate::scripts::{IN_TURN, ends};
+use crate::whole_scripts::scripts::{IN_TURN, ends};
 use std::alloc::{AllocError, Global};
 use std::process::Abort;
 use std::sync::Wait;

@@ -1,5 +1,5 @@
 // Drives and updates: the calls, and the copy before and after them.
-use crate::tables::{NOTHING, Part, TWO_REVISIONS, Table};
+use crate::whole_scripts::tables::{NOTHING, Part, TWO_REVISIONS, Table};
 
 // A file changes between two revisions.
 const STORED: Part = (

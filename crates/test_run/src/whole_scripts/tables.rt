@@ -1,6 +1,6 @@
 // Scripts, each with what it prints.
-use crate::rows::{drives, forms, links, refusals, updates};
-use crate::scripts::{IN_TURN, MANY_CALLS, ONE_CALL, ends};
+use crate::whole_scripts::rows::{drives, forms, links, refusals, updates};
+use crate::whole_scripts::scripts::{IN_TURN, MANY_CALLS, ONE_CALL, ends};
 use std::alloc::{AllocError, Global};
 use std::process::Abort;
 use std::sync::Wait;

@@ -1,5 +1,5 @@
 // Scripts of the greatest length, and readers without an end.
-use crate::scripts::{MANY_CALLS, ScriptRun};
+use crate::whole_scripts::scripts::{MANY_CALLS, ScriptRun};
 use std::io;
 use std::io::Read;
 use std::sync::Wait;

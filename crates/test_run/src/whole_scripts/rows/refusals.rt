@@ -1,5 +1,5 @@
 // Commands that are refused: each prints its refusal, changes nothing, and the script goes on.
-use crate::tables::{NOTHING, Part, TWO_REVISIONS, Table};
+use crate::whole_scripts::tables::{NOTHING, Part, TWO_REVISIONS, Table};
 
 const FILE_AND_DIRECTORY: Part = ("put f a\nmkdir d\ncommit\n", "committed 1\n");
 

@@ -1,6 +1,6 @@
 // Updates and switches that are stopped after each number of calls, and then made again to their end.
-use crate::rows::links::BRANCHED;
-use crate::tables::{Part, TWO_REVISIONS};
+use crate::whole_scripts::rows::links::BRANCHED;
+use crate::whole_scripts::tables::{Part, TWO_REVISIONS};
 
 // A run after some lines, how many calls it has, and what `show` prints at its end.
 pub(crate) struct Stop {

@@ -1,6 +1,6 @@
 // Each run stopped after each number of calls, early and late: the copy that is left is updated to the same end.
-use crate::rows::stops::{Stop, stops};
-use crate::scripts::{IN_TURN, MANY_CALLS, ONE_CALL, ScriptRun, run};
+use crate::whole_scripts::rows::stops::{Stop, stops};
+use crate::whole_scripts::scripts::{IN_TURN, MANY_CALLS, ONE_CALL, ScriptRun, run};
 use std::alloc::{AllocError, Global};
 use std::process::Abort;
 use std::sync::Wait;
