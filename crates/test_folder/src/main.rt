@@ -1,9 +1,10 @@
-//! Folders: each step and each refusal in memory and on disk, files in pieces, copies and several syncs, a folder that stops after each number of
-//! steps, what a crash may leave, and whether all is on the disk.
+//! Folders: each step and each refusal in memory and on disk, also with files written behind, files in pieces, copies and several syncs, a folder that stops
+//! after each number of steps, what a crash may leave, and whether all is on the disk.
 #![tactic(auto)]
 
 mod several;
 mod tables;
+mod written_behind;
 
 use anyhow::{Result, bail};
 use several::{do_all, do_and_finish, left_of, make_many, state_of, stop_between};
@@ -13,13 +14,14 @@ use std::path::PathBuf;
 use std::rt::Files;
 use std::thread::Threads;
 use svn_folder::{
-    DiskFolder, Entry, Folder, FolderFault, Held, Locks, MemoryFolder, StoppedFolder, Summary,
-    SyncedFolder,
+    DiskFolder, Entry, FileMaker, Folder, FolderFault, Held, Locks, MemoryFolder, StoppedFolder,
+    Summary, SyncedFolder, WriteBehind,
 };
 use svn_types::RelPath;
 use tables::{
     Act, acts, careless, lost, moved, paths, refused, renamed, replaced, step_of, synced, unsynced,
 };
+use written_behind::try_behind;
 
 // The folder of the system that is tried, where the program runs.
 const TRIED: &str = "tried_folder";
@@ -145,15 +147,32 @@ fn take_both<R: Print + AllocGlobal, F: Folder, G: Folder>(
     compare(alloc, memory, disk, &words)
 }
 
-// The folder on disk, which is empty.
-fn tried<R: Files<File = File> + Threads + Locks + AllocGlobal>(
-    rt: &R,
-) -> Result<DiskFolder<'_, R>> {
+// The folder on disk.
+fn tried_again<R: Files<File = File> + Threads + AllocGlobal>(rt: &R) -> Result<DiskFolder<'_, R>> {
+    Ok(DiskFolder::new(rt, PathBuf::from_str(rt.alloc(), TRIED)?))
+}
+
+// Makes it anew, with nothing in it.
+fn clear<R: Files<File = File> + AllocGlobal>(rt: &R) -> Result<()> {
     if std::fs::exists(rt, TRIED)? {
         std::fs::remove_dir_all(rt, TRIED)?;
     }
     std::fs::create_dir(rt, TRIED)?;
-    Ok(DiskFolder::new(rt, PathBuf::from_str(rt.alloc(), TRIED)?))
+    Ok(())
+}
+
+// The folder on disk, which is empty.
+fn tried<R: Files<File = File> + Threads + AllocGlobal>(rt: &R) -> Result<DiskFolder<'_, R>> {
+    clear(rt)?;
+    tried_again(rt)
+}
+
+// The same, with files that are written behind.
+fn behind<R: Files<File = File> + Threads + Locks + FileMaker + AllocGlobal>(
+    rt: &R,
+) -> Result<WriteBehind<'_, R>> {
+    clear(rt)?;
+    Ok(WriteBehind::new(rt, PathBuf::from_str(rt.alloc(), TRIED)?))
 }
 
 fn take_all<R: Print + AllocGlobal, G: Folder>(rt: &R, disk: &mut G) -> Result<()> {
@@ -166,9 +185,7 @@ fn take_all<R: Print + AllocGlobal, G: Folder>(rt: &R, disk: &mut G) -> Result<(
 
 fn try_both<R: Files<File = File> + Threads + Locks + Print + AllocGlobal>(rt: &R) -> Result<()> {
     take_all(rt, &mut SyncedFolder::new(rt.alloc(), tried(rt)?))?;
-    do_all(rt, &mut SyncedFolder::new(rt.alloc(), tried(rt)?))?;
-    std::fs::remove_dir_all(rt, TRIED)?;
-    Ok(())
+    do_all(rt, &mut SyncedFolder::new(rt.alloc(), tried(rt)?))
 }
 
 // Locks a database of the system, while it is locked and afterwards.
@@ -315,6 +332,7 @@ fn try_stops_between<R: Print + AllocGlobal>(rt: &R) -> Result<()> {
 
 fn main(rt: HostRuntime) -> Result<()> {
     try_both(&rt)?;
+    try_behind(&rt)?;
     try_stops(&rt)?;
     try_crashes(&rt)?;
     try_syncs(&rt)?;

@@ -12,7 +12,7 @@ use svn_types::RelPath;
 // So many bytes come at once.
 const PIECE: usize = 4;
 
-fn make_in_pieces<F: Folder>(
+pub(crate) fn make_in_pieces<F: Folder>(
     alloc: Global,
     folder: &mut F,
     path: &str,
@@ -23,7 +23,7 @@ fn make_in_pieces<F: Folder>(
     folder.make_file(alloc, &path, Mode::PLAIN, None, &mut pieces)
 }
 
-fn copy<F: Folder>(
+pub(crate) fn copy<F: Folder>(
     alloc: Global,
     folder: &mut F,
     from: &str,
