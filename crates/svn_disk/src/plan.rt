@@ -1,8 +1,11 @@
 //! What differs between two working copies, and what is done on disk to get from one to the other.
-ghost use Rattle.std.specs.Prelude.{◌≡◌, ◌++◌, [], true, map, IfOk, OnOk};
+ghost use Rattle.std.specs.Prelude.{◌≡◌, ◌++◌, [], true, false, map, Some, None, is_some, IfSome, IfOk, OnOk};
 ghost use Rattle.std.specs.List.{flat_map};
-ghost use Rattle.svn_model.specs.Nodes.{get_in, is_dir};
+ghost use Rattle.std.specs.Option.{option_copied};
+ghost use Rattle.svn_types.specs.Names.{Path};
+ghost use Rattle.svn_model.specs.Nodes.{get_in, is_dir, present_kind, present_props, file_text};
 ghost use Rattle.svn_disk.specs.Changes.{comes, goes, making_directory, making_file, removing_directory, removing_file, makings_of, removals_of};
+ghost use Rattle.svn_disk.specs.Changes.{is_on_disk, is_on_disk_at, has_to_come, IsChangeOf, IsPlanned, ArePlanned, StayPlanned};
 
 use crate::above::note_above;
 use crate::fault::DiskFault;
@@ -54,7 +57,9 @@ impl Change {
     }
 
     // Whether something changes on disk.
-    fn is_on_disk(self) -> bool {
+    fn is_on_disk(self) -> bool
+        ensures { result ≡ is_on_disk self }
+    {
         !matches!(self, Change::Recorded | Change::Bumped)
     }
 
@@ -74,12 +79,16 @@ pub struct PathChange {
 }
 
 // Whether two nodes have the same text and the same properties.
-fn is_same_node(old: &BaseNode, new: &BaseNode) -> bool {
+fn is_same_node(old: &BaseNode, new: &BaseNode) -> bool
+    ensures { result ≡ true → (file_text old.now ≡ file_text new.now) × (present_props old.now ≡ present_props new.now) }
+{
     old.text() == new.text() && old.props() == new.props()
 }
 
 // What becomes of a node of one kind that nothing on disk changes of.
-fn change_of_record(old: &BaseNode, new: &BaseNode) -> Change {
+fn change_of_record(old: &BaseNode, new: &BaseNode) -> Change
+    ensures { present_kind old.now ≡ present_kind new.now → has_to_come (Some old.now) (Some new.now) ≡ false → IsChangeOf (Some old.now) (Some new.now) result }
+{
     if is_same_node(old, new) {
         Change::Bumped
     } else {
@@ -87,8 +96,22 @@ fn change_of_record(old: &BaseNode, new: &BaseNode) -> Change {
     }
 }
 
+// What becomes of a node whose kind stays.
+fn change_of_kind(old: &BaseNode, new: &BaseNode) -> Change
+    ensures { present_kind old.now ≡ present_kind new.now → IsChangeOf (Some old.now) (Some new.now) result }
+{
+    if is_same_on_disk(old, new) {
+        change_of_record(old, new)
+    } else {
+        Change::Rewritten
+    }
+}
+
 // What becomes of a node that both copies have.
-fn change_between(old: &BaseNode, new: &BaseNode) -> Option<Change> {
+fn change_between(old: &BaseNode, new: &BaseNode) -> Option<Change>
+    ensures none { result ≡ None → old.now ≡ new.now }
+    ensures some { IfSome result (IsChangeOf (Some old.now) (Some new.now)) }
+{
     if old == new {
         return None;
     }
@@ -97,32 +120,47 @@ fn change_between(old: &BaseNode, new: &BaseNode) -> Option<Change> {
         (None, Some(_)) => Change::Added,
         (Some(_), None) => Change::Removed,
         (Some(was), Some(is)) => {
-            if was != is {
-                Change::Replaced
-            } else if is_same_on_disk(old, new) {
-                change_of_record(old, new)
+            if was == is {
+                change_of_kind(old, new)
             } else {
-                Change::Rewritten
+                Change::Replaced
             }
         }
     })
 }
 
+// What becomes of a node that comes to where the old copy knows nothing.
+fn change_from_nothing(new: &BaseNode) -> Change
+    ensures { IsChangeOf None (Some new.now) result }
+{
+    if new.is_present() {
+        Change::Added
+    } else {
+        Change::Bumped
+    }
+}
+
+// What becomes of a node of which the new copy knows nothing.
+fn change_to_nothing(old: &BaseNode) -> Change
+    ensures { IsChangeOf (Some old.now) None result }
+{
+    if old.is_present() {
+        Change::Removed
+    } else {
+        Change::Bumped
+    }
+}
+
 // What becomes of a path.
-fn change_of(old: Option<&BaseNode>, new: Option<&BaseNode>) -> Option<Change> {
+fn change_of(old: Option<&BaseNode>, new: Option<&BaseNode>) -> Option<Change>
+    ensures none { result ≡ None → option_copied old ≡ option_copied new }
+    ensures some { IfSome result (IsChangeOf (option_copied old) (option_copied new)) }
+{
     match (old, new) {
         (None, None) => None,
         (Some(old), Some(new)) => change_between(old, new),
-        (Some(old), None) => Some(if old.is_present() {
-            Change::Removed
-        } else {
-            Change::Bumped
-        }),
-        (None, Some(new)) => Some(if new.is_present() {
-            Change::Added
-        } else {
-            Change::Bumped
-        }),
+        (Some(old), None) => Some(change_to_nothing(old)),
+        (None, Some(new)) => Some(change_from_nothing(new)),
     }
 }
 
@@ -145,6 +183,7 @@ impl<'a> Plan<'a> {
         new: &'a WorkingCopy,
     ) -> Result<Plan<'a>, DiskFault>
         ensures copies { IfOk result (λ plan. (plan.was.now ≡ old.now) × (plan.wanted.now ≡ new.now)) }
+        ensures each { IfOk result (λ plan. ArePlanned old.now new.now plan.changes.entries) }
     {
         let mut plan = Plan {
             was: old,
@@ -156,14 +195,26 @@ impl<'a> Plan<'a> {
         Ok(plan)
     }
 
+    // Notes what becomes of a path.
+    fn note(&mut self, path: &RelPath) -> Result<(), DiskFault>
+        ensures copies { (self.new.was ≡ self.old.was) × (self.new.wanted ≡ self.old.wanted) }
+        ensures planned { OnOk result (IsPlanned self.old.was.now self.old.wanted.now self.new.changes.entries path.now) }
+        ensures stay { OnOk result (StayPlanned self.old.was.now self.old.wanted.now self.old.changes.entries self.new.changes.entries) }
+    {
+        if let Some(change) = change_of(self.was.get(path), self.wanted.get(path)) {
+            self.changes.insert(path.clone()?, change)?;
+        }
+        Ok(())
+    }
+
     // Notes what becomes of each path of a copy.
     fn note_all(&mut self, copy: &WorkingCopy) -> Result<(), DiskFault>
         ensures copies { (self.new.was ≡ self.old.was) × (self.new.wanted ≡ self.old.wanted) }
+        ensures each { OnOk result ((p : Path) → is_some (get_in copy.now p) ≡ true → IsPlanned self.old.was.now self.old.wanted.now self.new.changes.entries p) }
+        ensures stay { OnOk result (StayPlanned self.old.was.now self.old.wanted.now self.old.changes.entries self.new.changes.entries) }
     {
         for (path, _) in copy.iter() {
-            if let Some(change) = change_of(self.was.get(path), self.wanted.get(path)) {
-                self.changes.insert(path.clone()?, change)?;
-            }
+            self.note(path)?;
         }
         Ok(())
     }
@@ -190,30 +241,35 @@ impl<'a> Plan<'a> {
         Ok(above)
     }
 
+    // Plans that something is made again.
+    fn restore_at(&mut self, path: RelPath) -> Result<(), DiskFault>
+        ensures copies { (self.new.was ≡ self.old.was) × (self.new.wanted ≡ self.old.wanted) }
+        ensures stay { is_on_disk_at self.old.changes.entries path ≡ false → OnOk result (StayPlanned self.old.was.now self.old.wanted.now self.old.changes.entries self.new.changes.entries) }
+    {
+        self.changes.insert(path, Change::Restored)?;
+        Ok(())
+    }
+
     /// Plans the directories that aren't on disk, and that something comes in.
     pub(crate) fn restore<F: Folder>(&mut self, alloc: Global, folder: &F) -> Result<(), DiskFault>
         ensures copies { (self.new.was ≡ self.old.was) × (self.new.wanted ≡ self.old.wanted) }
+        ensures stay { OnOk result (StayPlanned self.old.was.now self.old.wanted.now self.old.changes.entries self.new.changes.entries) }
     {
         for path in self.above_makings(alloc)? {
-            let is_planned = match self.changes.get(&path) {
-                Some(change) => change.makes(),
-                None => false,
-            };
-            if !is_planned && folder.look(alloc, &path)?.is_none() {
-                self.changes.insert(path, Change::Restored)?;
+            // what goes is above nothing that comes
+            if !self.changes_on_disk(&path) && folder.look(alloc, &path)?.is_none() {
+                self.restore_at(path)?;
             }
         }
         Ok(())
     }
 
     // Whether a node stays, and nothing on disk becomes of it so far.
-    fn stays(&self, path: &RelPath) -> bool {
-        let is_planned = match self.changes.get(path) {
-            Some(change) => change.is_on_disk(),
-            None => false,
-        };
+    fn stays(&self, path: &RelPath) -> bool
+        ensures { result ≡ true → is_on_disk_at self.now.changes.entries path.now ≡ false }
+    {
         match self.wanted.get(path) {
-            Some(node) => node.is_present() && !is_planned,
+            Some(node) => node.is_present() && !self.changes_on_disk(path),
             None => false,
         }
     }
@@ -221,10 +277,11 @@ impl<'a> Plan<'a> {
     /// Plans those of these nodes that stay, since they aren't on disk.
     pub(crate) fn restore_nodes(&mut self, missing: &BTreeSet<RelPath>) -> Result<(), DiskFault>
         ensures copies { (self.new.was ≡ self.old.was) × (self.new.wanted ≡ self.old.wanted) }
+        ensures stay { OnOk result (StayPlanned self.old.was.now self.old.wanted.now self.old.changes.entries self.new.changes.entries) }
     {
         for path in missing {
             if self.stays(path) {
-                self.changes.insert(path.clone()?, Change::Restored)?;
+                self.restore_at(path.clone()?)?;
             }
         }
         Ok(())
@@ -246,7 +303,9 @@ impl<'a> Plan<'a> {
     }
 
     /// Whether something changes on disk at a path.
-    pub(crate) fn changes_on_disk(&self, path: &RelPath) -> bool {
+    pub(crate) fn changes_on_disk(&self, path: &RelPath) -> bool
+        ensures { result ≡ is_on_disk_at self.now.changes.entries path.now }
+    {
         match self.changes.get(path) {
             Some(change) => change.is_on_disk(),
             None => false,

@@ -1,0 +1,220 @@
+-- Each path at which two copies differ: what becomes of it, in a plan and in a list.
+use Rattle.std.proofs.Common.{◌≡◌, ◌≢◌, Bool, true, false, ◌||◌, not, ℕ, ◌+◌, ◌<◌, cond, map, List, [], ◌∷◌, length, get_or, refl, sym, ◌∙◌, ap, subst, inl, inr, arith, true≢false}
+use Rattle.std.specs.Prelude.{◌⊎◌, bytes_eq, Option, Some, None, is_some}
+use Rattle.std.specs.BTreeMap.{is_at}
+use Rattle.std.specs.List.{Contains}
+use Rattle.std.specs.Map.{lookup}
+use Rattle.std.proofs.lemmas.Bool.{or_parts}
+use Rattle.svn_types.specs.declared.kind.Kind.TheVariants.{File, Directory}
+use Rattle.svn_types.specs.Names.{Path, path_cmp}
+use Rattle.svn_types.specs.Paths.{path_eq}
+use Rattle.svn_types.proofs.PathLemmas.{same_path, path_eq-same}
+use Rattle.svn_types.proofs.PathsInOrder.{at_path}
+use Rattle.svn_model.specs.declared.base_node.BaseNode.{BaseNode}
+use Rattle.svn_model.specs.declared.base_node.BaseNode.TheVariants.{File as FileNode, Dir as DirNode, NotPresent}
+use Rattle.svn_model.specs.Nodes.{get_in, is_dir, is_file, present_kind, present_props, file_text}
+use Rattle.svn_disk.specs.Plans.{text_of_node}
+use Rattle.svn_disk.specs.declared.plan.Change.{Change}
+use Rattle.svn_disk.specs.declared.plan.Change.TheVariants.{Added, Removed, Replaced, Rewritten, Recorded, Bumped, Restored}
+use Rattle.svn_disk.specs.declared.plan.PathChange.{PathChange}
+use Rattle.svn_disk.specs.Changes.{comes, goes, is_on_disk, is_some_on_disk, is_on_disk_at, has_to_come, has_to_go, IsSameNode, IsChangeOf, HasPlan, IsPlanned, ArePlanned, StayPlanned, HasChange, HasEachChange}
+
+-- ---- what becomes of two nodes
+
+-- where the kind stays nothing has to go
+kind_stays : (old new : BaseNode) → present_kind old ≡ present_kind new → has_to_go (Some old) (Some new) ≡ false
+kind_stays (FileNode r q t ps) (FileNode r2 q2 t2 ps2) same = refl
+kind_stays (FileNode r q t ps) (DirNode r2 q2 c2 ps2) same = cc
+kind_stays (FileNode r q t ps) NotPresent same = cc
+kind_stays (DirNode r q c ps) (FileNode r2 q2 t2 ps2) same = cc
+kind_stays (DirNode r q c ps) (DirNode r2 q2 c2 ps2) same = refl
+kind_stays (DirNode r q c ps) NotPresent same = cc
+kind_stays NotPresent new same = refl
+
+same_node : (old new : BaseNode) → present_kind old ≡ present_kind new → (file_text old ≡ file_text new) × (present_props old ≡ present_props new)
+    → IsSameNode (Some old) (Some new)
+same_node (FileNode r q t ps) (FileNode r2 q2 t2 ps2) same parts =
+    let texts : Some t ≡ Some t2 = parts.0 in
+    let props : Some ps ≡ Some ps2 = parts.1 in
+    record { directories = refl; files = refl; texts = cc; props = cc }
+same_node (FileNode r q t ps) (DirNode r2 q2 c2 ps2) same parts = cc
+same_node (FileNode r q t ps) NotPresent same parts = cc
+same_node (DirNode r q c ps) (FileNode r2 q2 t2 ps2) same parts = cc
+same_node (DirNode r q c ps) (DirNode r2 q2 c2 ps2) same parts =
+    let props : Some ps ≡ Some ps2 = parts.1 in
+    record { directories = refl; files = refl; texts = refl; props = cc }
+same_node (DirNode r q c ps) NotPresent same parts = cc
+same_node NotPresent (FileNode r2 q2 t2 ps2) same parts = cc
+same_node NotPresent (DirNode r2 q2 c2 ps2) same parts = cc
+same_node NotPresent NotPresent same parts = record { directories = refl; files = refl; texts = refl; props = refl }
+
+-- nothing on disk changes
+record_as : (old new : BaseNode) (change : Change) → present_kind old ≡ present_kind new → has_to_come (Some old) (Some new) ≡ false
+    → (change ≡ Bumped → (file_text old ≡ file_text new) × (present_props old ≡ present_props new)) → IsChangeOf (Some old) (Some new) change
+record_as old new change kind come same = record {
+  made = λ h. absurd (true≢false (sym h ∙ come));
+  removed = λ h. absurd (true≢false (sym h ∙ kind_stays old new kind));
+  bumped = λ is. same_node old new kind (same is);
+}
+
+pub recorded : (old new : BaseNode) → present_kind old ≡ present_kind new → has_to_come (Some old) (Some new) ≡ false → IsChangeOf (Some old) (Some new) Recorded
+recorded old new kind come = record_as old new Recorded kind come (λ (is : Recorded ≡ Bumped). cc)
+
+pub bumped : (old new : BaseNode) → present_kind old ≡ present_kind new → has_to_come (Some old) (Some new) ≡ false
+    → (file_text old ≡ file_text new) × (present_props old ≡ present_props new) → IsChangeOf (Some old) (Some new) Bumped
+bumped old new kind come same = record_as old new Bumped kind come (λ is. same)
+
+pub rewritten : (old new : BaseNode) → present_kind old ≡ present_kind new → IsChangeOf (Some old) (Some new) Rewritten
+rewritten old new kind = record {
+  made = λ h. refl;
+  removed = λ h. absurd (true≢false (sym h ∙ kind_stays old new kind));
+  bumped = λ is. cc;
+}
+
+pub replaced : (old new : Option BaseNode) → IsChangeOf old new Replaced
+replaced old new = record { made = λ h. refl; removed = λ h. refl; bumped = λ is. cc }
+
+-- what isn't present has nothing to go, and is made of nothing
+pub added_to : (old new : BaseNode) → present_kind old ≡ None → IsChangeOf (Some old) (Some new) Added
+added_to (FileNode r q t ps) new none = cc
+added_to (DirNode r q c ps) new none = cc
+added_to NotPresent new none = record { made = λ h. refl; removed = λ h. h; bumped = λ is. cc }
+
+pub removed_to : (old new : BaseNode) → present_kind new ≡ None → IsChangeOf (Some old) (Some new) Removed
+removed_to old (FileNode r q t ps) none = cc
+removed_to old (DirNode r q c ps) none = cc
+removed_to old NotPresent none = record { made = λ h. h; removed = λ h. refl; bumped = λ is. cc }
+
+pub noted : (old new : BaseNode) → present_kind old ≡ None → present_kind new ≡ None → IsChangeOf (Some old) (Some new) Bumped
+noted (FileNode r q t ps) new none and = cc
+noted (DirNode r q c ps) new none and = cc
+noted NotPresent (FileNode r q t ps) none and = cc
+noted NotPresent (DirNode r q c ps) none and = cc
+noted NotPresent NotPresent none and =
+    record { made = λ h. h; removed = λ h. h; bumped = λ is. record { directories = refl; files = refl; texts = refl; props = refl } }
+
+-- of a path at which one copy knows nothing
+pub added : (new : Option BaseNode) → IsChangeOf None new Added
+added new = record { made = λ h. refl; removed = λ h. h; bumped = λ is. cc }
+
+pub removed : (old : Option BaseNode) → IsChangeOf old None Removed
+removed old = record { made = λ h. h; removed = λ h. refl; bumped = λ is. cc }
+
+-- ---- a plan
+
+-- what becomes of a path is planned there; of the others all stays as it was
+pub planned_here : (old new : List (Path × BaseNode)) (entries : List (Path × Change)) (p : Path) (change : Change) → lookup (is_at (path_cmp p)) entries ≡ Some change
+    → IsChangeOf (get_in old p) (get_in new p) change → IsPlanned old new entries p
+planned_here old new entries p change found is = λ differs. record { change = change; found = found; is = is }
+
+-- where the copies don't differ nothing has to be
+pub planned_same : (old new : List (Path × BaseNode)) (entries : List (Path × Change)) (p : Path) → get_in old p ≡ get_in new p → IsPlanned old new entries p
+planned_same old new entries p same = λ differs. absurd (differs same)
+
+module _ (old new : List (Path × BaseNode)) (entries more : List (Path × Change)) (p : Path) (change : Change)
+    (updated : (q : Path) → lookup (is_at (path_cmp q)) more ≡ cond (is_at (path_cmp p) q) (Some change) (lookup (is_at (path_cmp q)) entries)) where
+  pub found_here : lookup (is_at (path_cmp p)) more ≡ Some change
+  found_here = updated p ∙ ap (λ b. cond b (Some change) (lookup (is_at (path_cmp p)) entries)) (at_path p p ∙ path_eq-same p)
+
+  found_there : (q : Path) → is_at (path_cmp p) q ≡ false → lookup (is_at (path_cmp q)) more ≡ lookup (is_at (path_cmp q)) entries
+  found_there q apart = updated q ∙ ap (λ b. cond b (Some change) (lookup (is_at (path_cmp q)) entries)) apart
+
+  -- one more change, that is what becomes of its path if something did so far
+  pub stay_planned : (IsPlanned old new entries p → IsPlanned old new more p) → StayPlanned old new entries more
+  stay_planned here q planned = by (is_at (path_cmp p) q) refl
+    where
+      by : (b : Bool) → is_at (path_cmp p) q ≡ b → IsPlanned old new more q
+      by true e =
+          let same : p ≡ q = same_path p q (sym (at_path p q) ∙ e) in
+          subst (IsPlanned old new more) same (here (subst (IsPlanned old new entries) (sym same) planned))
+      by false e = λ differs. let was = planned differs in record { change = was.change; found = found_there q e ∙ was.found; is = was.is }
+
+-- what is planned may be made again, if nothing happens on disk
+again : (old new : Option BaseNode) (change : Change) → is_on_disk change ≡ false → IsChangeOf old new change → IsChangeOf old new Restored
+again old new change none is = record {
+  made = λ h. refl;
+  removed = λ h. absurd (true≢false (sym (is.removed h) ∙ (or_parts (comes change) (goes change) none).1));
+  bumped = λ b. cc;
+}
+
+pub planned_again : (old new : List (Path × BaseNode)) (entries more : List (Path × Change)) (p : Path) → is_on_disk_at entries p ≡ false
+    → lookup (is_at (path_cmp p)) more ≡ Some Restored → IsPlanned old new entries p → IsPlanned old new more p
+planned_again old new entries more p none found planned = λ differs.
+    let was = planned differs in
+    record {
+      change = Restored;
+      found = found;
+      is = again (get_in old p) (get_in new p) was.change (sym (ap is_some_on_disk was.found) ∙ none) was.is;
+    }
+
+-- ---- one path of a copy after the other
+
+-- what the copy has is planned, or is among what is left of it
+abbrev pub Covers : List (Path × BaseNode) → List (Path × BaseNode) → List (Path × BaseNode) → List (Path × Change) → List (Path × BaseNode) → Type 0
+Covers old new copy entries rest = (p : Path) → is_some (get_in copy p) ≡ true → IsPlanned old new entries p ⊎ (is_some (get_in rest p) ≡ true)
+
+pub covers_more : (old new copy : List (Path × BaseNode)) (entries more : List (Path × Change)) (path : Path) (node : BaseNode) (items rest : List (Path × BaseNode))
+    → items ≡ (path, node) ∷ rest → IsPlanned old new more path → StayPlanned old new entries more → Covers old new copy entries items → Covers old new copy more rest
+covers_more old new copy entries more path node items rest is here stay before p has =
+    elim before p has [ inl planned ↦ inl (stay p planned) | inr left ↦ by (is_at (path_cmp p) path) refl (ap (λ l. is_some (get_in l p)) (sym is) ∙ left) ]
+  where
+    by : (b : Bool) → is_at (path_cmp p) path ≡ b → is_some (cond (is_at (path_cmp p) path) (Some node) (get_in rest p)) ≡ true
+        → IsPlanned old new more p ⊎ (is_some (get_in rest p) ≡ true)
+    by true e left = inl (subst (IsPlanned old new more) (sym (same_path p path (sym (at_path p path) ∙ e))) here)
+    by false e left = inr (ap (λ b. is_some (cond b (Some node) (get_in rest p))) (sym e) ∙ left)
+
+pub covers_all : (old new copy : List (Path × BaseNode)) (entries : List (Path × Change)) (items : List (Path × BaseNode)) → items ≡ []
+    → Covers old new copy entries items → (p : Path) → is_some (get_in copy p) ≡ true → IsPlanned old new entries p
+covers_all old new copy entries items is covers p has =
+    elim covers p has [ inl planned ↦ planned | inr left ↦ absurd (true≢false (sym left ∙ ap (λ l. is_some (get_in l p)) is)) ]
+
+-- of both copies
+pub both_planned : (old new : List (Path × BaseNode)) (first entries : List (Path × Change))
+    → ((p : Path) → is_some (get_in old p) ≡ true → IsPlanned old new first p) → StayPlanned old new first entries
+    → ((p : Path) → is_some (get_in new p) ≡ true → IsPlanned old new entries p) → ArePlanned old new entries
+both_planned old new first entries olds stay news p = by (get_in old p) (get_in new p) refl refl
+  where
+    by : (o n : Option BaseNode) → get_in old p ≡ o → get_in new p ≡ n → IsPlanned old new entries p
+    by (Some x) n is and = stay p (olds p (ap is_some is))
+    by None (Some x) is and = news p (ap is_some and)
+    by None None is and = λ differs. absurd (differs (is ∙ sym and))
+
+-- ---- a list
+
+pair_of : PathChange → Path × Change
+pair_of change = (change.path, change.change)
+
+module _ (old new : List (Path × BaseNode)) (p : Path) where
+  has_more : (first : PathChange) (rest : List PathChange) → HasChange old new rest p → HasChange old new (first ∷ rest) p
+  has_more first rest has = record {
+    change = has.change;
+    listed = (has.listed.0 + 1, omega (arith, has.listed.1), has.listed.2);
+    at = has.at;
+    is = has.is;
+  }
+
+  in_list : (change : Change) (changes : List PathChange) → lookup (is_at (path_cmp p)) (map pair_of changes) ≡ Some change
+      → IsChangeOf (get_in old p) (get_in new p) change → HasChange old new changes p
+  unfolding pair_of
+  in_list change [] found is = cc
+  in_list change (first ∷ rest) found is = by (is_at (path_cmp p) first.path) refl (λ later. has_more first rest (in_list change rest later is))
+    where
+      by : (b : Bool) → is_at (path_cmp p) first.path ≡ b
+          → (lookup (is_at (path_cmp p)) (map pair_of rest) ≡ Some change → HasChange old new (first ∷ rest) p) → HasChange old new (first ∷ rest) p
+      by true e later =
+          let here : Some first.change ≡ Some change = sym (ap (λ b. cond b (Some first.change) (lookup (is_at (path_cmp p)) (map pair_of rest))) e) ∙ found in
+          let same : first.change ≡ change = cc in
+          record {
+            change = first;
+            listed = (0, omega arith, refl);
+            at = sym (same_path p first.path (sym (at_path p first.path) ∙ e));
+            is = subst (IsChangeOf (get_in old p) (get_in new p)) (sym same) is;
+          }
+      by false e later = later (sym (ap (λ b. cond b (Some first.change) (lookup (is_at (path_cmp p)) (map pair_of rest))) e) ∙ found)
+
+pub each_listed : (old new : List (Path × BaseNode)) (entries : List (Path × Change)) (changes : List PathChange)
+    → map (λ (change : PathChange). (change.path, change.change)) changes ≡ entries → ArePlanned old new entries → HasEachChange old new changes
+unfolding pair_of
+each_listed old new entries changes is planned p differs =
+    let plan = planned p differs in
+    in_list old new p plan.change changes (ap (lookup (is_at (path_cmp p))) is ∙ plan.found) plan.is
