@@ -53,6 +53,10 @@
 //! new copy, as after a checkout, and where a file goes and nothing comes is no file and no link. Once [`resume`] has completed a copy, all items of its queue
 //! are done in this sense (`IsCompleted`). A directory that goes stays if something is in it that isn't the copy's.
 //!
+//! Each path whose node is another one in the new copy is in the list that [`bring`], [`changes`], [`mend`] or [`mend_changes`] returns (`HasEachChange`), and
+//! what has to come or to go there does, by the list (`IsChangeOf`): a node where there was none of its kind, a file with another text; and where more differs
+//! than the revision or the place in the repository, the list says so.
+//!
 //! Each step of [`bring`] is inside of `.svn`, or makes a directory, places what had no name yet, or removes a file or a directory, at the path of a node of
 //! the old copy or of the new one (`is_of_change`), so that nothing else is changed (`a_change_changes_nothing_else`). With `sync`, where the old copy is on
 //! the disk with each of its texts (`IsKept`), a crash at any moment of it leaves the old copy or the new one, with each of its texts (`IsOldOrNew`,
@@ -67,8 +71,7 @@
 //! [`mend`], those of the new copy (`texts_of_either`).
 //!
 //! A crash is one of `svn_folder`, so this is said of folders whose steps are known; of a folder of the system no contract speaks. Not proved, and tested by
-//! `test_disk` at each step: that a change and a mend return each path that changes, that a checkout replaces no file, and that the work which a crash leaves
-//! is all that is left to do.
+//! `test_disk` at each step: that a checkout replaces no file, and that the work which a crash leaves is all that is left to do.
 #![tactic(auto)]
 
 mod above;

@@ -4,7 +4,7 @@ ghost use Rattle.svn_model.specs.Nodes.{get_in, IsTrueOf};
 ghost use Rattle.svn_run.specs.UpdateTheorem.{asked};
 ghost use Rattle.svn_disk.specs.Crashes.{IsKept, IsThereOrTrue, IsTrueThere, LeavesFrom, AfterFrom};
 ghost use Rattle.svn_disk_update.specs.Reaching.{IsReached};
-ghost use Rattle.svn_disk_update.specs.Arriving.{request_at, IsArrived, IsUpdated};
+ghost use Rattle.svn_disk_update.specs.Arriving.{request_at, IsArrived, IsUpdated, IsToUpdate};
 
 use crate::fault::UpdateFault;
 use crate::reaching::reach;
@@ -140,7 +140,9 @@ pub fn would_update<R: Threads + Wait + Sync, F: Folder>(
     alloc: Global,
     folder: &F,
     what: &Aim<'_>,
-) -> Result<Updated, UpdateFault> {
+) -> Result<Updated, UpdateFault>
+    ensures { IfOk result (λ updated. IsToUpdate what.now.repo.now what.now.existing.now.copy updated.changes.items) }
+{
     let leading = find(rt, alloc, folder, what)?;
     let changes = changes(alloc, folder, what.existing, &leading.wanted)?;
     Ok(leading.updated(changes))

@@ -1,6 +1,6 @@
 use Rattle.std.proofs.Common.{Vec, Global, subst, sym}
 use Rattle.svn_disk.specs.declared.plan.PathChange.{PathChange}
-use Rattle.svn_disk.specs.Changes.{AreChanged}
+use Rattle.svn_disk.specs.Changes.{AreChanged, HasEachChange}
 use Rattle.svn_disk.specs.Ends.{Turns}
 use Rattle.svn_disk.specs.Crashes.{IsKept}
 use Rattle.svn_disk.proofs.Running.{breaks_leaves}
@@ -43,6 +43,8 @@ returns-clause-ends g c =
     record {
       copy = copy;
       is_true = c.in_ok-leading.ensures.truth;
+      each = subst (λ (list : Vec PathChange Global). HasEachChange c.args.what.now.existing.now.copy copy list.items) (sym c.updated.ensures.changes)
+          c.in_ok-changes.ensures.each;
       ends = subst (λ (list : Vec PathChange Global). Turns (λ a b. AreChanged c.args.what.now.existing.now.copy copy list.items b)
           (g.F.Folder.past c.args.folder.now.folder) (g.F.Folder.past c.bring.new.folder.folder)) (sym c.updated.ensures.changes) c.in_ok-changes.ensures.ends;
     }
