@@ -12,7 +12,7 @@ use Rattle.svn_types.proofs.PathLemmas.{same_path, path_eq-same}
 use Rattle.svn_types.proofs.PathsInOrder.{at_path}
 use Rattle.svn_model.specs.declared.base_node.BaseNode.{BaseNode}
 use Rattle.svn_model.specs.declared.base_node.BaseNode.TheVariants.{File as FileNode, Dir as DirNode, NotPresent}
-use Rattle.svn_model.specs.Nodes.{get_in, is_dir, is_file, present_kind, present_props, file_text}
+use Rattle.svn_model.specs.Nodes.{get_in, is_present, is_dir, is_file, present_kind, present_props, file_text}
 use Rattle.svn_disk.specs.Plans.{text_of_node}
 use Rattle.svn_disk.specs.declared.plan.Change.{Change}
 use Rattle.svn_disk.specs.declared.plan.Change.TheVariants.{Added, Removed, Replaced, Rewritten, Recorded, Bumped, Restored}
@@ -93,6 +93,18 @@ noted NotPresent (DirNode r q c ps) none and = cc
 noted NotPresent NotPresent none and =
     record { made = λ h. h; removed = λ h. h; bumped = λ is. record { directories = refl; files = refl; texts = refl; props = refl } }
 
+pub noted_first : (new : BaseNode) → is_present (Some new) ≡ false → IsChangeOf None (Some new) Bumped
+noted_first (FileNode r q t ps) none = absurd (true≢false none)
+noted_first (DirNode r q c ps) none = absurd (true≢false none)
+noted_first NotPresent none =
+    record { made = λ h. h; removed = λ h. h; bumped = λ is. record { directories = refl; files = refl; texts = refl; props = refl } }
+
+pub noted_last : (old : BaseNode) → is_present (Some old) ≡ false → IsChangeOf (Some old) None Bumped
+noted_last (FileNode r q t ps) none = absurd (true≢false none)
+noted_last (DirNode r q c ps) none = absurd (true≢false none)
+noted_last NotPresent none =
+    record { made = λ h. h; removed = λ h. h; bumped = λ is. record { directories = refl; files = refl; texts = refl; props = refl } }
+
 -- of a path at which one copy knows nothing
 pub added : (new : Option BaseNode) → IsChangeOf None new Added
 added new = record { made = λ h. refl; removed = λ h. h; bumped = λ is. cc }
@@ -106,6 +118,10 @@ removed old = record { made = λ h. h; removed = λ h. refl; bumped = λ is. cc 
 pub planned_here : (old new : List (Path × BaseNode)) (entries : List (Path × Change)) (p : Path) (change : Change) → lookup (is_at (path_cmp p)) entries ≡ Some change
     → IsChangeOf (get_in old p) (get_in new p) change → IsPlanned old new entries p
 planned_here old new entries p change found is = λ differs. record { change = change; found = found; is = is }
+
+pub is_change_at : (old new was now : Option BaseNode) (change : Change) → was ≡ old → now ≡ new → IsChangeOf was now change → IsChangeOf old new change
+is_change_at old new was now change o n is =
+    subst (λ (x : Option BaseNode). IsChangeOf x new change) o (subst (λ (x : Option BaseNode). IsChangeOf was x change) n is)
 
 -- where the copies don't differ nothing has to be
 pub planned_same : (old new : List (Path × BaseNode)) (entries : List (Path × Change)) (p : Path) → get_in old p ≡ get_in new p → IsPlanned old new entries p

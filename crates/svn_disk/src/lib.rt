@@ -28,7 +28,7 @@
 //! | `contents`, `carry` | what is written of a new copy; its work, done |
 //! | `checkout` | a new copy |
 //! | `existing`, `clearing`, `completion` | one that is on disk; what was cut off before there was one; what was cut off, completed |
-//! | `above`, `plan`, `wanted` | the directories above a path; what becomes of each path between two copies; what a copy is brought to |
+//! | `above`, `difference`, `plan`, `wanted` | the directories above a path; what becomes of a node, and of each path, between two copies; what a copy is brought to |
 //! | `on_disk`, `missing`, `local`, `refusals` | what is on disk; what isn't any more; local changes in the way; all that is in the way |
 //! | `task`, `repeated`, `known` | the work that is left; paths with work twice; the texts by which a file is nobody's edit |
 //! | `doing`, `database_image` | the work, done; the databases that follow |
@@ -82,6 +82,7 @@ mod clearing;
 mod completion;
 mod contents;
 mod database_image;
+mod difference;
 mod doing;
 mod existing;
 mod fault;

@@ -1,19 +1,17 @@
 //! What differs between two working copies, and what is done on disk to get from one to the other.
-ghost use Rattle.std.specs.Prelude.{◌≡◌, ◌++◌, [], true, false, map, Some, None, is_some, IfSome, IfOk, OnOk};
+ghost use Rattle.std.specs.Prelude.{◌≡◌, ◌++◌, [], true, false, map, is_some, IfOk, OnOk};
 ghost use Rattle.std.specs.List.{flat_map};
-ghost use Rattle.std.specs.Option.{option_copied};
 ghost use Rattle.svn_types.specs.Names.{Path};
-ghost use Rattle.svn_model.specs.Nodes.{get_in, is_dir, present_kind, present_props, file_text};
+ghost use Rattle.svn_model.specs.Nodes.{get_in, is_dir};
 ghost use Rattle.svn_disk.specs.Changes.{comes, goes, making_directory, making_file, removing_directory, removing_file, makings_of, removals_of};
-ghost use Rattle.svn_disk.specs.Changes.{is_on_disk, is_on_disk_at, has_to_come, IsChangeOf, IsPlanned, ArePlanned, StayPlanned};
+ghost use Rattle.svn_disk.specs.Changes.{is_on_disk, is_on_disk_at, IsPlanned, ArePlanned, StayPlanned};
 
 use crate::above::note_above;
+use crate::difference::change_of;
 use crate::fault::DiskFault;
-use crate::node_file::is_same_on_disk;
 use std::alloc::Global;
 use std::collections::{BTreeMap, BTreeSet};
 use svn_folder::Folder;
-use svn_model::BaseNode;
 use svn_types::RelPath;
 use svn_wc::WorkingCopy;
 use svn_wcrows::Work;
@@ -78,92 +76,6 @@ pub struct PathChange {
     pub change: Change,
 }
 
-// Whether two nodes have the same text and the same properties.
-fn is_same_node(old: &BaseNode, new: &BaseNode) -> bool
-    ensures { result ≡ true → (file_text old.now ≡ file_text new.now) × (present_props old.now ≡ present_props new.now) }
-{
-    old.text() == new.text() && old.props() == new.props()
-}
-
-// What becomes of a node of one kind that nothing on disk changes of.
-fn change_of_record(old: &BaseNode, new: &BaseNode) -> Change
-    ensures { present_kind old.now ≡ present_kind new.now → has_to_come (Some old.now) (Some new.now) ≡ false → IsChangeOf (Some old.now) (Some new.now) result }
-{
-    if is_same_node(old, new) {
-        Change::Bumped
-    } else {
-        Change::Recorded
-    }
-}
-
-// What becomes of a node whose kind stays.
-fn change_of_kind(old: &BaseNode, new: &BaseNode) -> Change
-    ensures { present_kind old.now ≡ present_kind new.now → IsChangeOf (Some old.now) (Some new.now) result }
-{
-    if is_same_on_disk(old, new) {
-        change_of_record(old, new)
-    } else {
-        Change::Rewritten
-    }
-}
-
-// What becomes of a node that both copies have.
-fn change_between(old: &BaseNode, new: &BaseNode) -> Option<Change>
-    ensures none { result ≡ None → old.now ≡ new.now }
-    ensures some { IfSome result (IsChangeOf (Some old.now) (Some new.now)) }
-{
-    if old == new {
-        return None;
-    }
-    Some(match (old.kind(), new.kind()) {
-        (None, None) => Change::Bumped,
-        (None, Some(_)) => Change::Added,
-        (Some(_), None) => Change::Removed,
-        (Some(was), Some(is)) => {
-            if was == is {
-                change_of_kind(old, new)
-            } else {
-                Change::Replaced
-            }
-        }
-    })
-}
-
-// What becomes of a node that comes to where the old copy knows nothing.
-fn change_from_nothing(new: &BaseNode) -> Change
-    ensures { IsChangeOf None (Some new.now) result }
-{
-    if new.is_present() {
-        Change::Added
-    } else {
-        Change::Bumped
-    }
-}
-
-// What becomes of a node of which the new copy knows nothing.
-fn change_to_nothing(old: &BaseNode) -> Change
-    ensures { IsChangeOf (Some old.now) None result }
-{
-    if old.is_present() {
-        Change::Removed
-    } else {
-        Change::Bumped
-    }
-}
-
-// What becomes of a path.
-fn change_of(old: Option<&BaseNode>, new: Option<&BaseNode>) -> Option<Change>
-    ensures none { result ≡ None → option_copied old ≡ option_copied new }
-    ensures some { IfSome result (IsChangeOf (option_copied old) (option_copied new)) }
-{
-    match (old, new) {
-        (None, None) => None,
-        (Some(old), Some(new)) => change_between(old, new),
-        (Some(old), None) => Some(change_to_nothing(old)),
-        (None, Some(new)) => Some(change_from_nothing(new)),
-    }
-}
-
 /// Two copies, and what becomes of each path at which they differ.
 #[derive(Drop)]
 pub(crate) struct Plan<'a> {
@@ -201,9 +113,10 @@ impl<'a> Plan<'a> {
         ensures planned { OnOk result (IsPlanned self.old.was.now self.old.wanted.now self.new.changes.entries path.now) }
         ensures stay { OnOk result (StayPlanned self.old.was.now self.old.wanted.now self.old.changes.entries self.new.changes.entries) }
     {
-        if let Some(change) = change_of(self.was.get(path), self.wanted.get(path)) {
-            self.changes.insert(path.clone()?, change)?;
-        }
+        let Some(change) = change_of(self.was.get(path), self.wanted.get(path)) else {
+            return Ok(());
+        };
+        self.changes.insert(path.clone()?, change)?;
         Ok(())
     }
 
@@ -250,16 +163,32 @@ impl<'a> Plan<'a> {
         Ok(())
     }
 
+    // Plans a directory that something comes in, and so doesn't go, to be made again if nothing is there.
+    fn restore_if_missing<F: Folder>(
+        &mut self,
+        alloc: Global,
+        folder: &F,
+        path: RelPath,
+    ) -> Result<(), DiskFault>
+        ensures copies { (self.new.was ≡ self.old.was) × (self.new.wanted ≡ self.old.wanted) }
+        ensures stay { OnOk result (StayPlanned self.old.was.now self.old.wanted.now self.old.changes.entries self.new.changes.entries) }
+    {
+        if self.changes_on_disk(&path) {
+            return Ok(());
+        }
+        if folder.look(alloc, &path)?.is_some() {
+            return Ok(());
+        }
+        self.restore_at(path)
+    }
+
     /// Plans the directories that aren't on disk, and that something comes in.
     pub(crate) fn restore<F: Folder>(&mut self, alloc: Global, folder: &F) -> Result<(), DiskFault>
         ensures copies { (self.new.was ≡ self.old.was) × (self.new.wanted ≡ self.old.wanted) }
         ensures stay { OnOk result (StayPlanned self.old.was.now self.old.wanted.now self.old.changes.entries self.new.changes.entries) }
     {
         for path in self.above_makings(alloc)? {
-            // what goes is above nothing that comes
-            if !self.changes_on_disk(&path) && folder.look(alloc, &path)?.is_none() {
-                self.restore_at(path)?;
-            }
+            self.restore_if_missing(alloc, folder, path)?;
         }
         Ok(())
     }
@@ -274,15 +203,24 @@ impl<'a> Plan<'a> {
         }
     }
 
+    // Plans a node that stays to be made again.
+    fn restore_if_it_stays(&mut self, path: &RelPath) -> Result<(), DiskFault>
+        ensures copies { (self.new.was ≡ self.old.was) × (self.new.wanted ≡ self.old.wanted) }
+        ensures stay { OnOk result (StayPlanned self.old.was.now self.old.wanted.now self.old.changes.entries self.new.changes.entries) }
+    {
+        if !self.stays(path) {
+            return Ok(());
+        }
+        self.restore_at(path.clone()?)
+    }
+
     /// Plans those of these nodes that stay, since they aren't on disk.
     pub(crate) fn restore_nodes(&mut self, missing: &BTreeSet<RelPath>) -> Result<(), DiskFault>
         ensures copies { (self.new.was ≡ self.old.was) × (self.new.wanted ≡ self.old.wanted) }
         ensures stay { OnOk result (StayPlanned self.old.was.now self.old.wanted.now self.old.changes.entries self.new.changes.entries) }
     {
         for path in missing {
-            if self.stays(path) {
-                self.restore_at(path.clone()?)?;
-            }
+            self.restore_if_it_stays(path)?;
         }
         Ok(())
     }
