@@ -5,6 +5,7 @@ use Rattle.std.specs.BTreeMap.{is_at}
 use Rattle.std.specs.List.{Contains}
 use Rattle.std.specs.Map.{lookup}
 use Rattle.std.proofs.lemmas.Bool.{or_parts}
+use Rattle.svn_types.specs.declared.kind.Kind.{Kind}
 use Rattle.svn_types.specs.declared.kind.Kind.TheVariants.{File, Directory}
 use Rattle.svn_types.specs.Names.{Path, path_cmp}
 use Rattle.svn_types.specs.Paths.{path_eq}
@@ -48,69 +49,91 @@ same_node NotPresent (FileNode r2 q2 t2 ps2) same parts = cc
 same_node NotPresent (DirNode r2 q2 c2 ps2) same parts = cc
 same_node NotPresent NotPresent same parts = record { directories = refl; files = refl; texts = refl; props = refl }
 
+present_of : (node : BaseNode) (kind : Kind) → present_kind node ≡ Some kind → is_present (Some node) ≡ true
+present_of (FileNode r q t ps) kind is = refl
+present_of (DirNode r q c ps) kind is = refl
+present_of NotPresent kind is = cc
+
 -- nothing on disk changes
-record_as : (old new : BaseNode) (change : Change) → present_kind old ≡ present_kind new → has_to_come (Some old) (Some new) ≡ false
+record_as : (old new : BaseNode) (change : Change) → is_on_disk change ≡ false → present_kind old ≡ present_kind new → has_to_come (Some old) (Some new) ≡ false
     → (change ≡ Bumped → (file_text old ≡ file_text new) × (present_props old ≡ present_props new)) → IsChangeOf (Some old) (Some new) change
-record_as old new change kind come same = record {
-  made = λ h. absurd (true≢false (sym h ∙ come));
-  removed = λ h. absurd (true≢false (sym h ∙ kind_stays old new kind));
-  bumped = λ is. same_node old new kind (same is);
-}
+record_as old new change none kind come same =
+    let parts = or_parts (comes change) (goes change) none in
+    record {
+      made = λ h. absurd (true≢false (sym h ∙ come));
+      there = λ h. absurd (true≢false (sym h ∙ parts.0));
+      removed = parts.1 ∙ sym (kind_stays old new kind);
+      bumped = λ is. same_node old new kind (same is);
+    }
 
 pub recorded : (old new : BaseNode) → present_kind old ≡ present_kind new → has_to_come (Some old) (Some new) ≡ false → IsChangeOf (Some old) (Some new) Recorded
-recorded old new kind come = record_as old new Recorded kind come (λ (is : Recorded ≡ Bumped). cc)
+recorded old new kind come = record_as old new Recorded refl kind come (λ (is : Recorded ≡ Bumped). cc)
 
 pub bumped : (old new : BaseNode) → present_kind old ≡ present_kind new → has_to_come (Some old) (Some new) ≡ false
     → (file_text old ≡ file_text new) × (present_props old ≡ present_props new) → IsChangeOf (Some old) (Some new) Bumped
-bumped old new kind come same = record_as old new Bumped kind come (λ is. same)
+bumped old new kind come same = record_as old new Bumped refl kind come (λ is. same)
 
-pub rewritten : (old new : BaseNode) → present_kind old ≡ present_kind new → IsChangeOf (Some old) (Some new) Rewritten
-rewritten old new kind = record {
+-- a file has another text, or is used in another way; two nodes that aren't present are the same on disk
+pub rewritten : (old new : BaseNode) (kind : Kind) → present_kind old ≡ Some kind → present_kind new ≡ Some kind → IsChangeOf (Some old) (Some new) Rewritten
+rewritten old new kind was is = record {
   made = λ h. refl;
-  removed = λ h. absurd (true≢false (sym h ∙ kind_stays old new kind));
-  bumped = λ is. cc;
+  there = λ h. present_of new kind is;
+  removed = sym (kind_stays old new (was ∙ sym is));
+  bumped = λ h. cc;
 }
 
-pub replaced : (old new : Option BaseNode) → IsChangeOf old new Replaced
-replaced old new = record { made = λ h. refl; removed = λ h. refl; bumped = λ is. cc }
+-- a file becomes a directory, or a directory a file
+pub replaced : (old new : BaseNode) (was is : Kind) → present_kind old ≡ Some was → present_kind new ≡ Some is → was ≢ is → IsChangeOf (Some old) (Some new) Replaced
+replaced (FileNode r q t ps) (FileNode r2 q2 t2 ps2) was is a b differ = absurd (differ (cc))
+replaced (FileNode r q t ps) (DirNode r2 q2 c2 ps2) was is a b differ = record { made = λ h. refl; there = λ h. refl; removed = refl; bumped = λ h. cc }
+replaced (FileNode r q t ps) NotPresent was is a b differ = cc
+replaced (DirNode r q c ps) (FileNode r2 q2 t2 ps2) was is a b differ = record { made = λ h. refl; there = λ h. refl; removed = refl; bumped = λ h. cc }
+replaced (DirNode r q c ps) (DirNode r2 q2 c2 ps2) was is a b differ = absurd (differ (cc))
+replaced (DirNode r q c ps) NotPresent was is a b differ = cc
+replaced NotPresent new was is a b differ = cc
 
 -- what isn't present has nothing to go, and is made of nothing
-pub added_to : (old new : BaseNode) → present_kind old ≡ None → IsChangeOf (Some old) (Some new) Added
-added_to (FileNode r q t ps) new none = cc
-added_to (DirNode r q c ps) new none = cc
-added_to NotPresent new none = record { made = λ h. refl; removed = λ h. h; bumped = λ is. cc }
+pub added_to : (old new : BaseNode) (kind : Kind) → present_kind old ≡ None → present_kind new ≡ Some kind → IsChangeOf (Some old) (Some new) Added
+added_to (FileNode r q t ps) new kind none some = cc
+added_to (DirNode r q c ps) new kind none some = cc
+added_to NotPresent new kind none some = record { made = λ h. refl; there = λ h. present_of new kind some; removed = refl; bumped = λ h. cc }
 
-pub removed_to : (old new : BaseNode) → present_kind new ≡ None → IsChangeOf (Some old) (Some new) Removed
-removed_to old (FileNode r q t ps) none = cc
-removed_to old (DirNode r q c ps) none = cc
-removed_to old NotPresent none = record { made = λ h. h; removed = λ h. refl; bumped = λ is. cc }
+pub removed_to : (old new : BaseNode) (kind : Kind) → present_kind old ≡ Some kind → present_kind new ≡ None → IsChangeOf (Some old) (Some new) Removed
+removed_to old (FileNode r q t ps) kind some none = cc
+removed_to old (DirNode r q c ps) kind some none = cc
+removed_to (FileNode r q t ps) NotPresent kind some none = record { made = λ h. h; there = λ h. h; removed = refl; bumped = λ h. cc }
+removed_to (DirNode r q c ps) NotPresent kind some none = record { made = λ h. h; there = λ h. h; removed = refl; bumped = λ h. cc }
+removed_to NotPresent NotPresent kind some none = cc
 
+-- neither is present, or one isn't and of the other nothing is known
 pub noted : (old new : BaseNode) → present_kind old ≡ None → present_kind new ≡ None → IsChangeOf (Some old) (Some new) Bumped
 noted (FileNode r q t ps) new none and = cc
 noted (DirNode r q c ps) new none and = cc
 noted NotPresent (FileNode r q t ps) none and = cc
 noted NotPresent (DirNode r q c ps) none and = cc
 noted NotPresent NotPresent none and =
-    record { made = λ h. h; removed = λ h. h; bumped = λ is. record { directories = refl; files = refl; texts = refl; props = refl } }
+    record { made = λ h. h; there = λ h. h; removed = refl; bumped = λ h. record { directories = refl; files = refl; texts = refl; props = refl } }
 
 pub noted_first : (new : BaseNode) → is_present (Some new) ≡ false → IsChangeOf None (Some new) Bumped
 noted_first (FileNode r q t ps) none = absurd (true≢false none)
 noted_first (DirNode r q c ps) none = absurd (true≢false none)
 noted_first NotPresent none =
-    record { made = λ h. h; removed = λ h. h; bumped = λ is. record { directories = refl; files = refl; texts = refl; props = refl } }
+    record { made = λ h. h; there = λ h. h; removed = refl; bumped = λ h. record { directories = refl; files = refl; texts = refl; props = refl } }
 
 pub noted_last : (old : BaseNode) → is_present (Some old) ≡ false → IsChangeOf (Some old) None Bumped
 noted_last (FileNode r q t ps) none = absurd (true≢false none)
 noted_last (DirNode r q c ps) none = absurd (true≢false none)
 noted_last NotPresent none =
-    record { made = λ h. h; removed = λ h. h; bumped = λ is. record { directories = refl; files = refl; texts = refl; props = refl } }
+    record { made = λ h. h; there = λ h. h; removed = refl; bumped = λ h. record { directories = refl; files = refl; texts = refl; props = refl } }
 
 -- of a path at which one copy knows nothing
-pub added : (new : Option BaseNode) → IsChangeOf None new Added
-added new = record { made = λ h. refl; removed = λ h. h; bumped = λ is. cc }
+pub added : (new : BaseNode) → is_present (Some new) ≡ true → IsChangeOf None (Some new) Added
+added new some = record { made = λ h. refl; there = λ h. some; removed = refl; bumped = λ h. cc }
 
-pub removed : (old : Option BaseNode) → IsChangeOf old None Removed
-removed old = record { made = λ h. h; removed = λ h. refl; bumped = λ is. cc }
+pub removed : (old : BaseNode) → is_present (Some old) ≡ true → IsChangeOf (Some old) None Removed
+removed (FileNode r q t ps) some = record { made = λ h. h; there = λ h. h; removed = refl; bumped = λ h. cc }
+removed (DirNode r q c ps) some = record { made = λ h. h; there = λ h. h; removed = refl; bumped = λ h. cc }
+removed NotPresent some = absurd (true≢false (sym some))
 
 -- ---- a plan
 
@@ -145,22 +168,23 @@ module _ (old new : List (Path × BaseNode)) (entries more : List (Path × Chang
           subst (IsPlanned old new more) same (here (subst (IsPlanned old new entries) (sym same) planned))
       by false e = λ differs. let was = planned differs in record { change = was.change; found = found_there q e ∙ was.found; is = was.is }
 
--- what is planned may be made again, if nothing happens on disk
-again : (old new : Option BaseNode) (change : Change) → is_on_disk change ≡ false → IsChangeOf old new change → IsChangeOf old new Restored
-again old new change none is = record {
+-- what stays may be made again, if nothing happens on disk so far
+again : (old new : Option BaseNode) (change : Change) → is_on_disk change ≡ false → is_present new ≡ true → IsChangeOf old new change → IsChangeOf old new Restored
+again old new change none there is = record {
   made = λ h. refl;
-  removed = λ h. absurd (true≢false (sym (is.removed h) ∙ (or_parts (comes change) (goes change) none).1));
-  bumped = λ b. cc;
+  there = λ h. there;
+  removed = sym (or_parts (comes change) (goes change) none).1 ∙ is.removed;
+  bumped = λ h. cc;
 }
 
 pub planned_again : (old new : List (Path × BaseNode)) (entries more : List (Path × Change)) (p : Path) → is_on_disk_at entries p ≡ false
-    → lookup (is_at (path_cmp p)) more ≡ Some Restored → IsPlanned old new entries p → IsPlanned old new more p
-planned_again old new entries more p none found planned = λ differs.
+    → is_present (get_in new p) ≡ true → lookup (is_at (path_cmp p)) more ≡ Some Restored → IsPlanned old new entries p → IsPlanned old new more p
+planned_again old new entries more p none there found planned = λ differs.
     let was = planned differs in
     record {
       change = Restored;
       found = found;
-      is = again (get_in old p) (get_in new p) was.change (sym (ap is_some_on_disk was.found) ∙ none) was.is;
+      is = again (get_in old p) (get_in new p) was.change (sym (ap is_some_on_disk was.found) ∙ none) there was.is;
     }
 
 -- ---- one path of a copy after the other

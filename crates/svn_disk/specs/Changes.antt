@@ -15,7 +15,7 @@ use Rattle.svn_types.specs.Names.{Path, path_cmp}
 use Rattle.svn_types.specs.Paths.{path_eq, is_root}
 use Rattle.svn_model.specs.declared.base_node.BaseNode.{BaseNode}
 use Rattle.svn_model.specs.declared.base_node.BaseNode.TheVariants.{File as FileNode, Dir as DirNode, NotPresent}
-use Rattle.svn_model.specs.Nodes.{get_in, is_dir, is_file, node_text, node_props, IsTrueOf}
+use Rattle.svn_model.specs.Nodes.{get_in, is_present, is_dir, is_file, node_text, node_props, IsTrueOf}
 use Rattle.svn_repo.specs.History.{History}
 use Rattle.svn_wcrows.specs.declared.work.Work.{Work}
 use Rattle.svn_wcrows.specs.declared.work.Work.TheVariants.{MakeDirectory, InstallFile, RemoveFile, RemoveDirectory}
@@ -81,10 +81,12 @@ pub record IsSameNode (old new : Option BaseNode) : Type 0 where
   pub texts : node_text old ≡ node_text new
   pub props : node_props old ≡ node_props new
 
--- what becomes of these nodes: what has to come comes, what has to go goes, and where more differs than where a node is from the change says so
+-- what becomes of these nodes: what has to come comes, and is a node of the new copy; just what has to go goes; and where more differs than where a node is
+-- from the change says so
 pub record IsChangeOf (old new : Option BaseNode) (change : Change) : Type 0 where
   pub made : has_to_come old new ≡ true → comes change ≡ true
-  pub removed : has_to_go old new ≡ true → goes change ≡ true
+  pub there : comes change ≡ true → is_present new ≡ true
+  pub removed : goes change ≡ has_to_go old new
   pub bumped : change ≡ Bumped → IsSameNode old new
 
 -- of a path, in a plan and in a list

@@ -2,7 +2,7 @@
 ghost use Rattle.std.specs.Prelude.{◌≡◌, ◌++◌, [], true, false, map, is_some, IfOk, OnOk};
 ghost use Rattle.std.specs.List.{flat_map};
 ghost use Rattle.svn_types.specs.Names.{Path};
-ghost use Rattle.svn_model.specs.Nodes.{get_in, is_dir};
+ghost use Rattle.svn_model.specs.Nodes.{get_in, is_present, is_dir};
 ghost use Rattle.svn_disk.specs.Changes.{comes, goes, making_directory, making_file, removing_directory, removing_file, makings_of, removals_of};
 ghost use Rattle.svn_disk.specs.Changes.{is_on_disk, is_on_disk_at, IsPlanned, ArePlanned, StayPlanned};
 
@@ -157,13 +157,23 @@ impl<'a> Plan<'a> {
     // Plans that something is made again.
     fn restore_at(&mut self, path: RelPath) -> Result<(), DiskFault>
         ensures copies { (self.new.was ≡ self.old.was) × (self.new.wanted ≡ self.old.wanted) }
-        ensures stay { is_on_disk_at self.old.changes.entries path ≡ false → OnOk result (StayPlanned self.old.was.now self.old.wanted.now self.old.changes.entries self.new.changes.entries) }
+        ensures stay { is_on_disk_at self.old.changes.entries path ≡ false → is_present (get_in self.old.wanted.now path) ≡ true → OnOk result (StayPlanned self.old.was.now self.old.wanted.now self.old.changes.entries self.new.changes.entries) }
     {
         self.changes.insert(path, Change::Restored)?;
         Ok(())
     }
 
-    // Plans a directory that something comes in, and so doesn't go, to be made again if nothing is there.
+    // Whether a node stays, and nothing on disk becomes of it so far.
+    fn stays(&self, path: &RelPath) -> bool
+        ensures { result ≡ true → (is_on_disk_at self.now.changes.entries path.now ≡ false) × (is_present (get_in self.now.wanted.now path.now) ≡ true) }
+    {
+        match self.wanted.get(path) {
+            Some(node) => node.is_present() && !self.changes_on_disk(path),
+            None => false,
+        }
+    }
+
+    // Plans a directory that something comes in, and so stays, to be made again if nothing is there.
     fn restore_if_missing<F: Folder>(
         &mut self,
         alloc: Global,
@@ -173,7 +183,7 @@ impl<'a> Plan<'a> {
         ensures copies { (self.new.was ≡ self.old.was) × (self.new.wanted ≡ self.old.wanted) }
         ensures stay { OnOk result (StayPlanned self.old.was.now self.old.wanted.now self.old.changes.entries self.new.changes.entries) }
     {
-        if self.changes_on_disk(&path) {
+        if !self.stays(&path) {
             return Ok(());
         }
         if folder.look(alloc, &path)?.is_some() {
@@ -191,16 +201,6 @@ impl<'a> Plan<'a> {
             self.restore_if_missing(alloc, folder, path)?;
         }
         Ok(())
-    }
-
-    // Whether a node stays, and nothing on disk becomes of it so far.
-    fn stays(&self, path: &RelPath) -> bool
-        ensures { result ≡ true → is_on_disk_at self.now.changes.entries path.now ≡ false }
-    {
-        match self.wanted.get(path) {
-            Some(node) => node.is_present() && !self.changes_on_disk(path),
-            None => false,
-        }
     }
 
     // Plans a node that stays to be made again.
