@@ -1,5 +1,5 @@
 -- Each path at which two copies differ: what becomes of it, in a plan and in a list.
-use Rattle.std.proofs.Common.{◌≡◌, ◌≢◌, Bool, true, false, ◌||◌, not, ℕ, ◌+◌, ◌<◌, cond, map, List, [], ◌∷◌, length, get_or, refl, sym, ◌∙◌, ap, subst, inl, inr, arith, true≢false}
+use Rattle.std.proofs.Common.{◌≡◌, ◌≢◌, Bool, true, false, ◌||◌, not, ℕ, suc, ◌<◌, cond, map, List, [], ◌∷◌, length, get_or, refl, sym, ◌∙◌, ap, subst, inl, inr, arith, true≢false}
 use Rattle.std.specs.Prelude.{◌⊎◌, bytes_eq, Option, Some, None, is_some}
 use Rattle.std.specs.BTreeMap.{is_at}
 use Rattle.std.specs.List.{Contains}
@@ -196,7 +196,7 @@ Covers old new copy entries rest = (p : Path) → is_some (get_in copy p) ≡ tr
 pub covers_more : (old new copy : List (Path × BaseNode)) (entries more : List (Path × Change)) (path : Path) (node : BaseNode) (items rest : List (Path × BaseNode))
     → items ≡ (path, node) ∷ rest → IsPlanned old new more path → StayPlanned old new entries more → Covers old new copy entries items → Covers old new copy more rest
 covers_more old new copy entries more path node items rest is here stay before p has =
-    elim before p has [ inl planned ↦ inl (stay p planned) | inr left ↦ by (is_at (path_cmp p) path) refl (ap (λ l. is_some (get_in l p)) (sym is) ∙ left) ]
+    elim (before p has) [ inl planned ↦ inl (stay p planned) | inr left ↦ by (is_at (path_cmp p) path) refl (ap (λ l. is_some (get_in l p)) (sym is) ∙ left) ]
   where
     by : (b : Bool) → is_at (path_cmp p) path ≡ b → is_some (cond (is_at (path_cmp p) path) (Some node) (get_in rest p)) ≡ true
         → IsPlanned old new more p ⊎ (is_some (get_in rest p) ≡ true)
@@ -206,7 +206,7 @@ covers_more old new copy entries more path node items rest is here stay before p
 pub covers_all : (old new copy : List (Path × BaseNode)) (entries : List (Path × Change)) (items : List (Path × BaseNode)) → items ≡ []
     → Covers old new copy entries items → (p : Path) → is_some (get_in copy p) ≡ true → IsPlanned old new entries p
 covers_all old new copy entries items is covers p has =
-    elim covers p has [ inl planned ↦ planned | inr left ↦ absurd (true≢false (sym left ∙ ap (λ l. is_some (get_in l p)) is)) ]
+    elim (covers p has) [ inl planned ↦ planned | inr left ↦ absurd (true≢false (sym left ∙ ap (λ l. is_some (get_in l p)) is)) ]
 
 -- of both copies
 pub both_planned : (old new : List (Path × BaseNode)) (first entries : List (Path × Change))
@@ -228,7 +228,7 @@ module _ (old new : List (Path × BaseNode)) (p : Path) where
   has_more : (first : PathChange) (rest : List PathChange) → HasChange old new rest p → HasChange old new (first ∷ rest) p
   has_more first rest has = record {
     change = has.change;
-    listed = (has.listed.0 + 1, omega (arith, has.listed.1), has.listed.2);
+    listed = (suc has.listed.0, omega (arith, has.listed.1), has.listed.2);
     at = has.at;
     is = has.is;
   }

@@ -1,6 +1,7 @@
 //! What becomes of a node, between what one copy has of it and what another has.
 ghost use Rattle.std.specs.Prelude.{◌≡◌, true, false, Some, None, IfSome};
 ghost use Rattle.std.specs.Option.{option_copied};
+ghost use Rattle.svn_types.specs.declared.kind.Kind.{Kind};
 ghost use Rattle.svn_model.specs.Nodes.{present_kind, present_props, file_text};
 ghost use Rattle.svn_disk.specs.Changes.{has_to_come, IsChangeOf};
 
@@ -28,7 +29,7 @@ fn change_of_record(old: &BaseNode, new: &BaseNode) -> Change
 
 // What becomes of a node whose kind stays.
 fn change_of_kind(old: &BaseNode, new: &BaseNode) -> Change
-    ensures { present_kind old.now ≡ present_kind new.now → IsChangeOf (Some old.now) (Some new.now) result }
+    ensures { (kind : Kind) → present_kind old.now ≡ Some kind → present_kind new.now ≡ Some kind → IsChangeOf (Some old.now) (Some new.now) result }
 {
     if is_same_on_disk(old, new) {
         change_of_record(old, new)
@@ -91,8 +92,8 @@ fn change_to_nothing(old: &BaseNode) -> Change
 
 /// What becomes of a path, if its nodes differ.
 pub(crate) fn change_of(old: Option<&BaseNode>, new: Option<&BaseNode>) -> Option<Change>
-    ensures none { result ≡ None → option_copied old ≡ option_copied new }
-    ensures some { IfSome result (IsChangeOf (option_copied old) (option_copied new)) }
+    ensures none { result ≡ None → option_copied old.entry ≡ option_copied new.entry }
+    ensures some { IfSome result (IsChangeOf (option_copied old.entry) (option_copied new.entry)) }
 {
     match (old, new) {
         (None, None) => None,
