@@ -146,6 +146,17 @@ pub is_change_at : (old new was now : Option BaseNode) (change : Change) → was
 is_change_at old new was now change o n is =
     subst (λ (x : Option BaseNode). IsChangeOf x new change) o (subst (λ (x : Option BaseNode). IsChangeOf was x change) n is)
 
+-- the same of copies that are the same
+module _ (old new was now : List (Path × BaseNode)) (o : was ≡ old) (n : now ≡ new) where
+  pub planned_along : (entries : List (Path × Change)) (p : Path) → IsPlanned was now entries p → IsPlanned old new entries p
+  planned_along entries p is =
+      subst (λ (x : List (Path × BaseNode)). IsPlanned x new entries p) o (subst (λ (x : List (Path × BaseNode)). IsPlanned was x entries p) n is)
+
+  pub stay_along : (entries more : List (Path × Change)) → StayPlanned was now entries more → StayPlanned old new entries more
+  stay_along entries more is =
+      subst (λ (x : List (Path × BaseNode)). StayPlanned x new entries more) o
+      (subst (λ (x : List (Path × BaseNode)). StayPlanned was x entries more) n is)
+
 -- where the copies don't differ nothing has to be
 pub planned_same : (old new : List (Path × BaseNode)) (entries : List (Path × Change)) (p : Path) → get_in old p ≡ get_in new p → IsPlanned old new entries p
 planned_same old new entries p same = λ differs. absurd (differs same)
