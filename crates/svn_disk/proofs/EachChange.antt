@@ -1,9 +1,10 @@
 -- Each path at which two copies differ: what becomes of it, in a plan and in a list.
-use Rattle.std.proofs.Common.{◌≡◌, ◌≢◌, Bool, true, false, ◌||◌, not, ℕ, suc, ◌<◌, cond, map, List, [], ◌∷◌, length, get_or, refl, sym, ◌∙◌, ap, subst, inl, inr, arith, true≢false}
-use Rattle.std.specs.Prelude.{◌⊎◌, bytes_eq, Option, Some, None, is_some}
+use Rattle.std.proofs.Common.{◌≡◌, ◌≢◌, Bool, true, false, ◌||◌, not, ℕ, suc, ◌<◌, cond, map, List, [], ◌∷◌, length, get_or, refl, sym, ◌∙◌, ap, subst, inl, inr, arith, true≢false, Vec, Global}
+use Rattle.std.specs.Prelude.{◌⊎◌, bytes_eq, Option, Some, None, is_some, Result, Ok, Err, IfOk, OnOk}
 use Rattle.std.specs.BTreeMap.{is_at}
 use Rattle.std.specs.List.{Contains}
-use Rattle.std.specs.Map.{lookup}
+use Rattle.std.specs.List.Sorted.{IsStrictlySortedBy}
+use Rattle.std.specs.Map.{lookup, keys_of}
 use Rattle.std.proofs.lemmas.Bool.{or_parts}
 use Rattle.svn_types.specs.declared.kind.Kind.{Kind}
 use Rattle.svn_types.specs.declared.kind.Kind.TheVariants.{File, Directory}
@@ -263,9 +264,25 @@ module _ (old new : List (Path × BaseNode)) (p : Path) where
           }
       by false e later = later (sym (ap (λ b. cond b (Some first.change) (lookup (is_at (path_cmp p)) (map pair_of rest))) e) ∙ found)
 
-pub each_listed : (old new : List (Path × BaseNode)) (entries : List (Path × Change)) (changes : List PathChange)
-    → map (λ (change : PathChange). (change.path, change.change)) changes ≡ entries → ArePlanned old new entries → HasEachChange old new changes
+paths_of : (changes : List PathChange) → keys_of (map pair_of changes) ≡ map (λ (change : PathChange). change.path) changes
 unfolding pair_of
-each_listed old new entries changes is planned p differs =
-    let plan = planned p differs in
-    in_list old new p plan.change changes (ap (lookup (is_at (path_cmp p))) is ∙ plan.found) plan.is
+paths_of [] = refl
+paths_of (first ∷ rest) = ap (λ (ps : List Path). first.path ∷ ps) (paths_of rest)
+
+pub each_listed : (old new : List (Path × BaseNode)) (entries : List (Path × Change)) (changes : List PathChange)
+    → map (λ (change : PathChange). (change.path, change.change)) changes ≡ entries → IsStrictlySortedBy path_cmp (keys_of entries) → ArePlanned old new entries
+    → HasEachChange old new changes
+unfolding pair_of
+each_listed old new entries changes is order planned = record {
+  order = subst (IsStrictlySortedBy path_cmp) (ap (λ (es : List (Path × Change)). keys_of es) (sym is) ∙ paths_of changes) order;
+  each = λ p differs.
+      let plan = planned p differs in
+      in_list old new p plan.change changes (ap (lookup (is_at (path_cmp p))) is ∙ plan.found) plan.is;
+}
+
+-- of what a call returns
+pub list_of : {E : Type 0} → (old new : List (Path × BaseNode)) (entries : List (Path × Change)) (result : Result (Vec PathChange Global) E)
+    → IfOk result (λ list. map (λ (change : PathChange). (change.path, change.change)) list.items ≡ entries)
+    → OnOk result (IsStrictlySortedBy path_cmp (keys_of entries)) → ArePlanned old new entries → IfOk result (λ list. HasEachChange old new list.items)
+list_of old new entries (Ok list) is order planned = each_listed old new entries list.items is order planned
+list_of old new entries (Err fault) is order planned = tt

@@ -3,13 +3,14 @@
 --     removals_of old changes, makings_of new changes      the work: the files that go, and the directories from below; the directories that come, from above, and
 --         the files
 --     AreChanged old new changes left      each path has what the changes say: the node of the new copy, or no file and no link any more
---     HasEachChange old new changes      each path at which the copies differ is in the list, and what becomes of it is said there
+--     HasEachChange old new changes      each path at which the copies differ is in the list, which is in path order, and what becomes of it is said there
 --     ArePlanned old new entries      the same of the changes of a plan, each with its path
 --     IsMended h old changes new      a copy was put right, by these changes, and these are all
 --     IsToMend h old changes      these are all changes that would put it right
 use Rattle.std.specs.Prelude.{◌≡◌, ◌≢◌, Bool, true, false, ◌&&◌, ◌||◌, not, List, [], ◌∷◌, ◌++◌, map, reverse, bytes_eq, if◌then◌else◌, Option, Some, None, ⊤}
 use Rattle.std.specs.BTreeMap.{is_at}
 use Rattle.std.specs.List.{Contains, flat_map, list_any}
+use Rattle.std.specs.List.Sorted.{IsStrictlySortedBy}
 use Rattle.std.specs.Map.{lookup}
 use Rattle.svn_types.specs.Names.{Path, path_cmp}
 use Rattle.svn_types.specs.Paths.{path_eq, is_root}
@@ -111,8 +112,10 @@ pub record HasChange (old new : List (Path × BaseNode)) (changes : List PathCha
   pub at : change.path ≡ p
   pub is : IsChangeOf (get_in old p) (get_in new p) change.change
 
-abbrev pub HasEachChange : List (Path × BaseNode) → List (Path × BaseNode) → List PathChange → Type 0
-HasEachChange old new changes = (p : Path) → get_in old p ≢ get_in new p → HasChange old new changes p
+-- each path is there once
+pub record HasEachChange (old new : List (Path × BaseNode)) (changes : List PathChange) : Type 0 where
+  pub order : IsStrictlySortedBy path_cmp (map (λ (change : PathChange). change.path) changes)
+  pub each : (p : Path) → get_in old p ≢ get_in new p → HasChange old new changes p
 
 -- ---- the work
 

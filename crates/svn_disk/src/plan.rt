@@ -1,7 +1,9 @@
 //! What differs between two working copies, and what is done on disk to get from one to the other.
 ghost use Rattle.std.specs.Prelude.{◌≡◌, ◌++◌, [], true, false, map, is_some, IfOk, OnOk};
 ghost use Rattle.std.specs.List.{flat_map};
-ghost use Rattle.svn_types.specs.Names.{Path};
+ghost use Rattle.std.specs.List.Sorted.{IsStrictlySortedBy};
+ghost use Rattle.std.specs.Map.{keys_of};
+ghost use Rattle.svn_types.specs.Names.{Path, path_cmp};
 ghost use Rattle.svn_model.specs.Nodes.{get_in, is_present, is_dir};
 ghost use Rattle.svn_disk.specs.Changes.{comes, goes, making_directory, making_file, removing_directory, removing_file, makings_of, removals_of};
 ghost use Rattle.svn_disk.specs.Changes.{is_on_disk, is_on_disk_at, IsPlanned, ArePlanned, StayPlanned};
@@ -385,7 +387,8 @@ impl<'a> Plan<'a> {
 
     /// What becomes of each path, in path order.
     pub(crate) fn into_changes(self, alloc: Global) -> Result<Vec<PathChange>, DiskFault>
-        ensures { IfOk result (λ list. map (λ change. (change.path, change.change)) list.items ≡ self.entry.changes.entries) }
+        ensures list { IfOk result (λ list. map (λ change. (change.path, change.change)) list.items ≡ self.entry.changes.entries) }
+        ensures order { OnOk result (IsStrictlySortedBy path_cmp (keys_of self.entry.changes.entries)) }
     {
         let Plan { changes, .. } = self;
         let mut list = Vec::new(alloc);

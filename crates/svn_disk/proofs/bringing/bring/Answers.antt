@@ -8,10 +8,10 @@ use Rattle.svn_disk.proofs.Ends.{turns_along}
 use Rattle.svn_types.specs.Names.{Path}
 use Rattle.svn_model.specs.declared.base_node.BaseNode.{BaseNode}
 use Rattle.svn_disk.specs.declared.plan.PathChange.{PathChange}
-use Rattle.svn_disk.specs.Changes.{removals_of, makings_of, AreChanged, HasEachChange}
+use Rattle.svn_disk.specs.Changes.{removals_of, makings_of, AreChanged}
 use Rattle.svn_disk.specs.Ends.{Turns, EachDone}
 use Rattle.svn_disk.proofs.EndsChange.{changes_done, on_value}
-use Rattle.svn_disk.proofs.EachChange.{each_listed}
+use Rattle.svn_disk.proofs.EachChange.{list_of}
 use Rattle.svn_disk.proofs.bringing.bring.Goals as goal
 
 pub returns-in_err-plan-clause-crash : goal.returns-in_err-plan-clause-crash
@@ -52,13 +52,9 @@ returns-clause-ends g c =
     on_value (λ (list : Vec PathChange Global). map (λ (change : PathChange). (change.path, change.change)) list.items ≡ entries)
     (λ (list : Vec PathChange Global). Turns (λ a b. AreChanged old new list.items b) was now) c.into_changes.result
     (λ list is. turns_along (λ a b. AreChanged old new list.items b) (λ a b all. changes_done old new entries list.items b is all) done)
-    c.into_changes.ensures
+    c.into_changes.ensures.list
 
 pub returns-clause-each : goal.returns-clause-each
 returns-clause-each g c =
-    let old = c.args.existing.now.copy in
-    let new = c.args.wanted.now.copy in
-    let entries = c.in_ok-plan.plan.changes.entries in
-    on_value (λ (list : Vec PathChange Global). map (λ (change : PathChange). (change.path, change.change)) list.items ≡ entries)
-    (λ (list : Vec PathChange Global). HasEachChange old new list.items) c.into_changes.result
-    (λ list is. each_listed old new entries list.items is c.in_ok-plan.ensures.each) c.into_changes.ensures
+    list_of c.args.existing.now.copy c.args.wanted.now.copy c.in_ok-plan.plan.changes.entries c.into_changes.result c.into_changes.ensures.list
+    c.into_changes.ensures.order c.in_ok-plan.ensures.each
