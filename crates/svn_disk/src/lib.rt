@@ -34,7 +34,7 @@
 //! | `doing`, `database_image` | the work, done; the databases that follow |
 //! | `rows`, `temporary`, `preparing`, `bringing` | rows of a changed copy; what an earlier run left; the new state, prepared; a copy on disk, brought to it |
 //! | `truth`, `mending` | what of a copy is untrue, put right; the same on disk |
-//! | `laws` | what the crash theorem rests on, of a rename |
+//! | `laws` | what the crash theorem rests on, of a rename; what the steps leave alone, and what is in place in the end |
 //!
 //! Definitions, in the order of reading: `specs/Goes.antt` (which steps a call takes), `Places.antt` (where they are), `Plans.antt` (what is written of a
 //! copy), `Tasks.antt` (work in two parts), `Crashes.antt` (what a crash leaves during a checkout, a change and a completion), `Ends.antt` (what a folder shows
@@ -55,7 +55,8 @@
 //!
 //! Each path whose node is another one in the new copy is in the list that [`bring`], [`changes`], [`mend`] or [`mend_changes`] returns (`HasEachChange`), and
 //! what has to come or to go there does, by the list (`IsChangeOf`): a node where there was none of its kind, a file with another text; and where more differs
-//! than the revision or the place in the repository, the list says so.
+//! than the revision or the place in the repository, the list says so. So a node that had to come is at its place once the call has returned Ok, and where a file
+//! was and the new copy has nothing is no file and no link (`what_changes_is_in_place`).
 //!
 //! Each step of [`bring`] is inside of `.svn`, or makes a directory, places what had no name yet, or removes a file or a directory, at the path of a node of
 //! the old copy or of the new one (`is_of_change`), so that nothing else is changed (`a_change_changes_nothing_else`). With `sync`, where the old copy is on
@@ -121,7 +122,7 @@ pub use fault::{DiskFault, OtherRepository};
 pub use inherited::inherited_props;
 pub use laws::{
     a_change_changes_nothing_else, a_checkout_changes_nothing_else, a_directory_is_renamed_at_once,
-    what_has_no_known_text_stays,
+    what_changes_is_in_place, what_has_no_known_text_stays,
 };
 pub use mending::{Remedy, mend, mend_changes};
 pub use missing::missing_nodes;
