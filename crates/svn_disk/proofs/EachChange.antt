@@ -1,25 +1,21 @@
 -- Each path at which two copies differ: what becomes of it, in a plan and in a list.
-use Rattle.std.proofs.Common.{◌≡◌, ◌≢◌, Bool, true, false, ◌||◌, not, ℕ, suc, ◌<◌, cond, map, List, [], ◌∷◌, length, get_or, refl, sym, ◌∙◌, ap, subst, inl, inr, arith, true≢false, Vec, Global}
-use Rattle.std.specs.Prelude.{◌⊎◌, bytes_eq, Option, Some, None, is_some, Result, Ok, Err, IfOk, OnOk}
+use Rattle.std.proofs.Common.{◌≡◌, ◌≢◌, Bool, true, false, suc, cond, map, List, [], ◌∷◌, refl, sym, ◌∙◌, ap, subst, inl, inr, arith, true≢false, Vec, Global}
+use Rattle.std.specs.Prelude.{◌⊎◌, Option, Some, None, is_some, Result, Ok, Err, IfOk, OnOk}
 use Rattle.std.specs.BTreeMap.{is_at}
-use Rattle.std.specs.List.{Contains}
 use Rattle.std.specs.List.Sorted.{IsStrictlySortedBy}
 use Rattle.std.specs.Map.{lookup, keys_of}
 use Rattle.std.proofs.lemmas.Bool.{or_parts}
 use Rattle.svn_types.specs.declared.kind.Kind.{Kind}
-use Rattle.svn_types.specs.declared.kind.Kind.TheVariants.{File, Directory}
 use Rattle.svn_types.specs.Names.{Path, path_cmp}
-use Rattle.svn_types.specs.Paths.{path_eq}
 use Rattle.svn_types.proofs.PathLemmas.{same_path, path_eq-same}
 use Rattle.svn_types.proofs.PathsInOrder.{at_path}
 use Rattle.svn_model.specs.declared.base_node.BaseNode.{BaseNode}
 use Rattle.svn_model.specs.declared.base_node.BaseNode.TheVariants.{File as FileNode, Dir as DirNode, NotPresent}
-use Rattle.svn_model.specs.Nodes.{get_in, is_present, is_dir, is_file, present_kind, present_props, file_text}
-use Rattle.svn_disk.specs.Plans.{text_of_node}
+use Rattle.svn_model.specs.Nodes.{get_in, is_present, present_kind, present_props, file_text}
 use Rattle.svn_disk.specs.declared.plan.Change.{Change}
 use Rattle.svn_disk.specs.declared.plan.Change.TheVariants.{Added, Removed, Replaced, Rewritten, Recorded, Bumped, Restored}
 use Rattle.svn_disk.specs.declared.plan.PathChange.{PathChange}
-use Rattle.svn_disk.specs.Changes.{comes, goes, is_on_disk, is_some_on_disk, is_on_disk_at, has_to_come, has_to_go, IsSameNode, IsChangeOf, HasPlan, IsPlanned, ArePlanned, StayPlanned, HasChange, HasEachChange}
+use Rattle.svn_disk.specs.Changes.{comes, goes, is_on_disk, is_some_on_disk, is_on_disk_at, has_to_come, has_to_go, IsSameNode, IsChangeOf, IsPlanned, ArePlanned, StayPlanned, HasChange, HasEachChange}
 
 -- ---- what becomes of two nodes
 

@@ -15,7 +15,7 @@ use Rattle.svn_model.specs.Nodes.{get_in, is_present, is_dir, is_file}
 use Rattle.svn_folder.specs.States.{Seen}
 use Rattle.svn_folder.specs.Entries.{has_leaf}
 use Rattle.svn_disk.specs.declared.plan.PathChange.{PathChange}
-use Rattle.svn_disk.specs.Changes.{comes, has_to_come, has_to_go, IsChangeOf, HasChange, HasEachChange, comes_to, IsChanged, EachChanged, AreChanged}
+use Rattle.svn_disk.specs.Changes.{comes, has_to_come, has_to_go, HasEachChange, comes_to, IsChanged, EachChanged, AreChanged}
 use Rattle.svn_disk.specs.Ends.{IsAtPlace}
 use Rattle.svn_disk.specs.Laws.{what_changes_is_in_place}
 

@@ -13,9 +13,9 @@ use Rattle.std.specs.List.{Contains, flat_map, list_any}
 use Rattle.std.specs.List.Sorted.{IsStrictlySortedBy}
 use Rattle.std.specs.Map.{lookup}
 use Rattle.svn_types.specs.Names.{Path, path_cmp}
-use Rattle.svn_types.specs.Paths.{path_eq, is_root}
+use Rattle.svn_types.specs.Paths.{path_eq}
 use Rattle.svn_model.specs.declared.base_node.BaseNode.{BaseNode}
-use Rattle.svn_model.specs.declared.base_node.BaseNode.TheVariants.{File as FileNode, Dir as DirNode, NotPresent}
+use Rattle.svn_model.specs.declared.base_node.BaseNode.TheVariants.{File as FileNode, Dir as DirNode}
 use Rattle.svn_model.specs.Nodes.{get_in, is_present, is_dir, is_file, node_text, node_props, IsTrueOf}
 use Rattle.svn_repo.specs.History.{History}
 use Rattle.svn_wcrows.specs.declared.work.Work.{Work}
@@ -26,7 +26,6 @@ use Rattle.svn_folder.specs.Pasts.{Past}
 use Rattle.svn_disk.specs.declared.plan.Change.{Change}
 use Rattle.svn_disk.specs.declared.plan.Change.TheVariants.{Added, Removed, Replaced, Rewritten, Recorded, Bumped, Restored}
 use Rattle.svn_disk.specs.declared.plan.PathChange.{PathChange}
-use Rattle.svn_disk.specs.declared.task.Task.{Task}
 use Rattle.svn_disk.specs.Goes.{IsAlways}
 use Rattle.svn_disk.specs.Crashes.{HasDatabase}
 use Rattle.svn_disk.specs.Ends.{Turns, IsAtPlace}

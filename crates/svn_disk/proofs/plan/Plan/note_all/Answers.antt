@@ -1,5 +1,4 @@
 use Rattle.std.proofs.Common.{◌≡◌, ap, ◌∙◌}
-use Rattle.svn_disk.specs.Changes.{IsPlanned, StayPlanned}
 use Rattle.svn_disk.proofs.EachChange.{planned_along, stay_along, covers_more}
 use Rattle.svn_disk.proofs.plan.Plan.note_all.Goals as goal
 
