@@ -323,3 +323,7 @@ changes_done old new entries changes left is done =
 pub on_value : {T : Type 0} → {E : Type 0} → (P Q : T → Type 0) (result : Result T E) → ((value : T) → P value → Q value) → IfOk result P → IfOk result Q
 on_value P Q (Ok value) law h = law value h
 on_value P Q (Err fault) law h = tt
+
+pub on_both : {T : Type 0} → {E : Type 0} → (P Q : T → Type 0) (result : Result T E) → IfOk result P → IfOk result Q → IfOk result (λ value. P value × Q value)
+on_both P Q (Ok value) p q = (p, q)
+on_both P Q (Err fault) p q = tt

@@ -42,6 +42,10 @@ pub mod EndsDone
 pub mod EndsAgain
 -- a change, and what is shown then
 pub mod EndsChange
+-- each path at which two copies differ
+pub mod EachChange
+-- the changes of a list, in place
+pub mod InPlace
 -- the nodes of a copy at their places
 pub mod EndsCopy
 -- texts that are written in another way

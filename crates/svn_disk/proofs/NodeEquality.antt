@@ -1,5 +1,6 @@
 -- Nodes that compare as equal are the same.
-use Rattle.std.proofs.Common.{◌≡◌, ℕ, Bool, true, false, ◌&&◌, List, [], ◌∷◌, refl, sym, ap₂, true≢false, nat_eq}
+use Rattle.std.proofs.Common.{◌≡◌, ℕ, Bool, true, false, ◌&&◌, Option, Some, None, List, [], ◌∷◌, refl, sym, ap, ap₂, true≢false, nat_eq, Bor}
+use Rattle.std.specs.Option.{option_copied, option_eq}
 use Rattle.std.specs.Cmp.Lexicographic.{pointwise}
 use Rattle.std.proofs.lemmas.Bool.{and_parts, eqb-true}
 use Rattle.svn_types.specs.Names.{Path}
@@ -16,13 +17,13 @@ same_all eq same (x ∷ xs) (y ∷ ys) h =
     let parts = and_parts (eq x y) (pointwise eq xs ys) h in
     ap₂ (λ z zs. z ∷ zs) (same x y parts.0) (same_all eq same xs ys parts.1)
 
-same_bytes : (m n : List ℕ) → pointwise nat_eq m n ≡ true → m ≡ n
+pub same_bytes : (m n : List ℕ) → pointwise nat_eq m n ≡ true → m ≡ n
 same_bytes = same_all nat_eq eqb-true
 
 same_path : (p q : Path) → pointwise (pointwise nat_eq) p q ≡ true → p ≡ q
 same_path = same_all (pointwise nat_eq) same_bytes
 
-abbrev prop_eq : List ℕ × List ℕ → List ℕ × List ℕ → Bool
+abbrev pub prop_eq : List ℕ × List ℕ → List ℕ × List ℕ → Bool
 prop_eq p q = pointwise nat_eq p.0 q.0 && pointwise nat_eq p.1 q.1
 
 same_prop : (p q : List ℕ × List ℕ) → prop_eq p q ≡ true → p ≡ q
@@ -30,8 +31,16 @@ same_prop p q h =
     let parts = and_parts (pointwise nat_eq p.0 q.0) (pointwise nat_eq p.1 q.1) h in
     ap₂ (λ m n. (m, n)) (same_bytes p.0 q.0 parts.0) (same_bytes p.1 q.1 parts.1)
 
-same_props : (ps qs : List (List ℕ × List ℕ)) → pointwise prop_eq ps qs ≡ true → ps ≡ qs
+pub same_props : (ps qs : List (List ℕ × List ℕ)) → pointwise prop_eq ps qs ≡ true → ps ≡ qs
 same_props = same_all prop_eq same_prop
+
+-- what is lent, if anything is
+pub same_lent : {A : Type 0} → (eq : A → A → Bool) → ((x y : A) → eq x y ≡ true → x ≡ y) → (a b : Option (Bor A))
+    → option_eq (λ (x y : Bor A). eq x.now y.now) a b ≡ true → option_copied a ≡ option_copied b
+same_lent eq same None None h = refl
+same_lent eq same None (Some y) h = absurd (true≢false (sym h))
+same_lent eq same (Some x) None h = absurd (true≢false (sym h))
+same_lent eq same (Some x) (Some y) h = ap Some (same x.now y.now h)
 
 -- of two directories that are both complete, or both not
 same_rest : (r r2 : ℕ) (p p2 : Path) (ps ps2 : List (List ℕ × List ℕ))
@@ -46,7 +55,7 @@ never r r2 p p2 h =
     let a = and_parts (nat_eq r r2) (pointwise (pointwise nat_eq) p p2 && false) h in
     (and_parts (pointwise (pointwise nat_eq) p p2) false a.1).1
 
-node_same : (x y : BaseNode) → ghosts.eq x y ≡ true → x ≡ y
+pub node_same : (x y : BaseNode) → ghosts.eq x y ≡ true → x ≡ y
 node_same (File r p t ps) (File r2 p2 t2 ps2) h =
     let a = and_parts (nat_eq r r2) (pointwise (pointwise nat_eq) p p2 && (pointwise nat_eq t t2 && pointwise prop_eq ps ps2)) h in
     let b = and_parts (pointwise (pointwise nat_eq) p p2) (pointwise nat_eq t t2 && pointwise prop_eq ps ps2) a.1 in

@@ -14,7 +14,7 @@ ghost use Rattle.svn_disk.specs.Crashes.{HasBytes, IsTextIn, OfText, EachText, I
 ghost use Rattle.svn_disk.specs.Spared.{GoesIn, Spares, texts_of, texts_of_either};
 ghost use Rattle.svn_disk.specs.Finding.{has_word};
 ghost use Rattle.svn_disk.specs.Tasks.{makings_in, removals_in, work_nodes, IsParted};
-ghost use Rattle.svn_disk.specs.Changes.{removals_of, makings_of, AreChanged};
+ghost use Rattle.svn_disk.specs.Changes.{removals_of, makings_of, AreChanged, ArePlanned, HasEachChange};
 ghost use Rattle.svn_disk.specs.Ends.{Turns, AreDistinct, AreFiles, AreNoted, EachNoted, is_noted, AreCopied, AreReady, EachDone};
 
 use crate::carry::{make_database, put_database};
@@ -325,7 +325,8 @@ fn plan_of<'a, F: Folder>(
     existing: &'a Existing,
     wanted: &'a Wanted,
 ) -> Result<Plan<'a>, DiskFault>
-    ensures { IfOk result (λ plan. (plan.was.now ≡ existing.now.copy) × (plan.wanted.now ≡ wanted.now.copy)) }
+    ensures copies { IfOk result (λ plan. (plan.was.now ≡ existing.now.copy) × (plan.wanted.now ≡ wanted.now.copy)) }
+    ensures each { IfOk result (λ plan. ArePlanned existing.now.copy wanted.now.copy plan.changes.entries) }
 {
     refuse_reserved(&existing.copy)?;
     refuse_reserved(&wanted.copy)?;
@@ -342,7 +343,9 @@ pub fn changes<F: Folder>(
     folder: &F,
     existing: &Existing,
     wanted: &Wanted,
-) -> Result<Vec<PathChange>, DiskFault> {
+) -> Result<Vec<PathChange>, DiskFault>
+    ensures { IfOk result (λ changes. HasEachChange existing.now.copy wanted.now.copy changes.items) }
+{
     let plan = plan_of(alloc, folder, existing, wanted)?;
     plan.into_changes(alloc)
 }
@@ -369,6 +372,7 @@ pub fn bring<F: Folder, S: Source>(
     ensures spares { GoesIn (Spares (texts_of_either existing.now.tables.pristine.items wanted.now.copy) (codes ".svn")) (F.past folder.old.folder) result (F.past folder.new.folder) }
     ensures crash { sync ≡ true → LeavesFrom (IsKept existing.now.copy) (IsOldOrNew existing.now.copy wanted.now.copy) (F.past folder.old.folder) (F.past folder.new.folder) }
     ensures after { sync ≡ true → OnOk result (AfterFrom (IsKept existing.now.copy) (IsThere wanted.now.copy) (F.past folder.old.folder) (F.past folder.new.folder)) }
+    ensures each { IfOk result (λ changes. HasEachChange existing.now.copy wanted.now.copy changes.items) }
     ensures ends { IfOk result (λ changes. Turns (λ before left. AreChanged existing.now.copy wanted.now.copy changes.items left) (F.past folder.old.folder) (F.past folder.new.folder)) }
 {
     let plan = plan_of(alloc, folder, existing, wanted)?;

@@ -1,5 +1,5 @@
-//! What a checkout and a change rest on, as the contracts of functions with nothing in them.
-ghost use Rattle.svn_disk.specs.Laws.{a_directory_is_renamed_at_once, a_checkout_changes_nothing_else, a_change_changes_nothing_else, what_has_no_known_text_stays};
+//! What a checkout and a change rest on, and what follows of their promises, as the contracts of functions with nothing in them.
+ghost use Rattle.svn_disk.specs.Laws.{a_directory_is_renamed_at_once, a_checkout_changes_nothing_else, a_change_changes_nothing_else, what_has_no_known_text_stays, what_changes_is_in_place};
 
 /// Once all of a folder is on the disk a directory in it gets another name at once: a crash leaves nothing at that name, or all that was at the old one.
 pub fn a_directory_is_renamed_at_once()
@@ -20,4 +20,10 @@ pub fn a_change_changes_nothing_else()
 /// Steps that spare all but what has a known text leave any other file or link, outside of the administrative folder, as it is.
 pub fn what_has_no_known_text_stays()
     ensures { what_has_no_known_text_stays }
+{}
+
+/// Once the changes of a list are in place, and the list has each change, a node that had to come is at its place: one of which there was none of its kind, or a
+/// file with another text. Where a file was and the new copy has nothing is no file and no link.
+pub fn what_changes_is_in_place()
+    ensures { what_changes_is_in_place }
 {}

@@ -28,13 +28,13 @@
 //! | `contents`, `carry` | what is written of a new copy; its work, done |
 //! | `checkout` | a new copy |
 //! | `existing`, `clearing`, `completion` | one that is on disk; what was cut off before there was one; what was cut off, completed |
-//! | `above`, `plan`, `wanted` | the directories above a path; what becomes of each path between two copies; what a copy is brought to |
+//! | `above`, `difference`, `plan`, `wanted` | the directories above a path; what becomes of a node, and of each path, between two copies; what a copy is brought to |
 //! | `on_disk`, `missing`, `local`, `refusals` | what is on disk; what isn't any more; local changes in the way; all that is in the way |
 //! | `task`, `repeated`, `known` | the work that is left; paths with work twice; the texts by which a file is nobody's edit |
 //! | `doing`, `database_image` | the work, done; the databases that follow |
 //! | `rows`, `temporary`, `preparing`, `bringing` | rows of a changed copy; what an earlier run left; the new state, prepared; a copy on disk, brought to it |
 //! | `truth`, `mending` | what of a copy is untrue, put right; the same on disk |
-//! | `laws` | what the crash theorem rests on, of a rename |
+//! | `laws` | what the crash theorem rests on, of a rename; what the steps leave alone, and what is in place in the end |
 //!
 //! Definitions, in the order of reading: `specs/Goes.antt` (which steps a call takes), `Places.antt` (where they are), `Plans.antt` (what is written of a
 //! copy), `Tasks.antt` (work in two parts), `Crashes.antt` (what a crash leaves during a checkout, a change and a completion), `Ends.antt` (what a folder shows
@@ -53,6 +53,11 @@
 //! new copy, as after a checkout, and where a file goes and nothing comes is no file and no link. Once [`resume`] has completed a copy, all items of its queue
 //! are done in this sense (`IsCompleted`). A directory that goes stays if something is in it that isn't the copy's.
 //!
+//! Each path whose node is another one in the new copy is in the list that [`bring`], [`changes`], [`mend`] or [`mend_changes`] returns (`HasEachChange`), and
+//! what has to come or to go there does, by the list (`IsChangeOf`): a node where there was none of its kind, a file with another text; and where more differs
+//! than the revision or the place in the repository, the list says so. So a node that had to come is at its place once the call has returned Ok, and where a file
+//! was and the new copy has nothing is no file and no link (`what_changes_is_in_place`).
+//!
 //! Each step of [`bring`] is inside of `.svn`, or makes a directory, places what had no name yet, or removes a file or a directory, at the path of a node of
 //! the old copy or of the new one (`is_of_change`), so that nothing else is changed (`a_change_changes_nothing_else`). With `sync`, where the old copy is on
 //! the disk with each of its texts (`IsKept`), a crash at any moment of it leaves the old copy or the new one, with each of its texts (`IsOldOrNew`,
@@ -67,8 +72,7 @@
 //! [`mend`], those of the new copy (`texts_of_either`).
 //!
 //! A crash is one of `svn_folder`, so this is said of folders whose steps are known; of a folder of the system no contract speaks. Not proved, and tested by
-//! `test_disk` at each step: that a change and a mend return each path that changes, that a checkout replaces no file, and that the work which a crash leaves
-//! is all that is left to do.
+//! `test_disk` at each step: that a checkout replaces no file, and that the work which a crash leaves is all that is left to do.
 #![tactic(auto)]
 
 mod above;
@@ -79,6 +83,7 @@ mod clearing;
 mod completion;
 mod contents;
 mod database_image;
+mod difference;
 mod doing;
 mod existing;
 mod fault;
@@ -117,7 +122,7 @@ pub use fault::{DiskFault, OtherRepository};
 pub use inherited::inherited_props;
 pub use laws::{
     a_change_changes_nothing_else, a_checkout_changes_nothing_else, a_directory_is_renamed_at_once,
-    what_has_no_known_text_stays,
+    what_changes_is_in_place, what_has_no_known_text_stays,
 };
 pub use mending::{Remedy, mend, mend_changes};
 pub use missing::missing_nodes;

@@ -6,7 +6,7 @@ ghost use Rattle.svn_model.specs.Nodes.{get_in, IsTrueOf};
 ghost use Rattle.svn_wcrows.specs.Tables.{AllRows, seen_tables};
 ghost use Rattle.svn_disk.specs.Goes.{IsAlways, Goes, no_step};
 ghost use Rattle.svn_disk.specs.Queue.{HasDatabaseRows};
-ghost use Rattle.svn_disk.specs.Changes.{IsMended};
+ghost use Rattle.svn_disk.specs.Changes.{IsMended, IsToMend};
 ghost use Rattle.svn_disk.specs.Spared.{GoesIn, SparesOthers};
 ghost use Rattle.svn_disk.specs.Crashes.{HasDatabase, IsThere, IsTrueThere, IsThereOrTrue, IsKept, IsMending, LeavesFrom, AfterFrom};
 
@@ -58,7 +58,9 @@ pub fn mend_changes<F: Folder>(
     alloc: Global,
     folder: &F,
     what: &Remedy<'_>,
-) -> Result<Vec<PathChange>, DiskFault> {
+) -> Result<Vec<PathChange>, DiskFault>
+    ensures { IfOk result (λ changes. IsToMend what.now.repo.now (F.past folder.now) changes.items) }
+{
     let (existing, wanted) = begin(alloc, folder, what)?;
     changes(alloc, folder, &existing, &wanted)
 }

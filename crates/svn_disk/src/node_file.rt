@@ -1,8 +1,9 @@
 //! What a file of a working copy is on disk, by its text and its properties (`svn_props.h`).
-ghost use Rattle.std.specs.Prelude.{◌≡◌, ◌++◌, codes, IfOk, IfSome};
+ghost use Rattle.std.specs.Prelude.{◌≡◌, ◌++◌, true, false, codes, Some, IfOk, IfSome};
 ghost use Rattle.std.specs.Option.{option_map};
 ghost use Rattle.svn_disk.specs.Plans.{text_of_node};
 ghost use Rattle.svn_disk.specs.Tasks.{node_at};
+ghost use Rattle.svn_disk.specs.Changes.{has_to_come};
 
 use crate::normal::{Keywords, with_line_ends, without_values};
 use std::alloc::{AllocError, Global};
@@ -127,7 +128,9 @@ fn is_written_alike(props: &Props, others: &Props) -> bool {
 }
 
 /// Whether two nodes of one kind are the same on disk: two directories, or two files with the same text, used and written in the same way.
-pub(crate) fn is_same_on_disk(node: &BaseNode, other: &BaseNode) -> bool {
+pub(crate) fn is_same_on_disk(node: &BaseNode, other: &BaseNode) -> bool
+    ensures { result ≡ true → has_to_come (Some node.now) (Some other.now) ≡ false }
+{
     let (Some((text, props)), Some((other_text, others))) = (file_of(node), file_of(other)) else {
         return node.is_directory() && other.is_directory();
     };

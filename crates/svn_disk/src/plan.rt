@@ -1,16 +1,19 @@
 //! What differs between two working copies, and what is done on disk to get from one to the other.
-ghost use Rattle.std.specs.Prelude.{◌≡◌, ◌++◌, [], true, map, IfOk, OnOk};
+ghost use Rattle.std.specs.Prelude.{◌≡◌, ◌++◌, [], true, false, map, is_some, IfOk, OnOk};
 ghost use Rattle.std.specs.List.{flat_map};
-ghost use Rattle.svn_model.specs.Nodes.{get_in, is_dir};
+ghost use Rattle.std.specs.List.Sorted.{IsStrictlySortedBy};
+ghost use Rattle.std.specs.Map.{keys_of};
+ghost use Rattle.svn_types.specs.Names.{Path, path_cmp};
+ghost use Rattle.svn_model.specs.Nodes.{get_in, is_present, is_dir};
 ghost use Rattle.svn_disk.specs.Changes.{comes, goes, making_directory, making_file, removing_directory, removing_file, makings_of, removals_of};
+ghost use Rattle.svn_disk.specs.Changes.{is_on_disk, is_on_disk_at, IsPlanned, ArePlanned, StayPlanned};
 
 use crate::above::note_above;
+use crate::difference::change_of;
 use crate::fault::DiskFault;
-use crate::node_file::is_same_on_disk;
 use std::alloc::Global;
 use std::collections::{BTreeMap, BTreeSet};
 use svn_folder::Folder;
-use svn_model::BaseNode;
 use svn_types::RelPath;
 use svn_wc::WorkingCopy;
 use svn_wcrows::Work;
@@ -54,7 +57,9 @@ impl Change {
     }
 
     // Whether something changes on disk.
-    fn is_on_disk(self) -> bool {
+    fn is_on_disk(self) -> bool
+        ensures { result ≡ is_on_disk self }
+    {
         !matches!(self, Change::Recorded | Change::Bumped)
     }
 
@@ -71,59 +76,6 @@ pub struct PathChange {
     pub path: RelPath,
     /// What becomes of it.
     pub change: Change,
-}
-
-// Whether two nodes have the same text and the same properties.
-fn is_same_node(old: &BaseNode, new: &BaseNode) -> bool {
-    old.text() == new.text() && old.props() == new.props()
-}
-
-// What becomes of a node of one kind that nothing on disk changes of.
-fn change_of_record(old: &BaseNode, new: &BaseNode) -> Change {
-    if is_same_node(old, new) {
-        Change::Bumped
-    } else {
-        Change::Recorded
-    }
-}
-
-// What becomes of a node that both copies have.
-fn change_between(old: &BaseNode, new: &BaseNode) -> Option<Change> {
-    if old == new {
-        return None;
-    }
-    Some(match (old.kind(), new.kind()) {
-        (None, None) => Change::Bumped,
-        (None, Some(_)) => Change::Added,
-        (Some(_), None) => Change::Removed,
-        (Some(was), Some(is)) => {
-            if was != is {
-                Change::Replaced
-            } else if is_same_on_disk(old, new) {
-                change_of_record(old, new)
-            } else {
-                Change::Rewritten
-            }
-        }
-    })
-}
-
-// What becomes of a path.
-fn change_of(old: Option<&BaseNode>, new: Option<&BaseNode>) -> Option<Change> {
-    match (old, new) {
-        (None, None) => None,
-        (Some(old), Some(new)) => change_between(old, new),
-        (Some(old), None) => Some(if old.is_present() {
-            Change::Removed
-        } else {
-            Change::Bumped
-        }),
-        (None, Some(new)) => Some(if new.is_present() {
-            Change::Added
-        } else {
-            Change::Bumped
-        }),
-    }
 }
 
 /// Two copies, and what becomes of each path at which they differ.
@@ -145,6 +97,7 @@ impl<'a> Plan<'a> {
         new: &'a WorkingCopy,
     ) -> Result<Plan<'a>, DiskFault>
         ensures copies { IfOk result (λ plan. (plan.was.now ≡ old.now) × (plan.wanted.now ≡ new.now)) }
+        ensures each { IfOk result (λ plan. ArePlanned old.now new.now plan.changes.entries) }
     {
         let mut plan = Plan {
             was: old,
@@ -156,14 +109,27 @@ impl<'a> Plan<'a> {
         Ok(plan)
     }
 
+    // Notes what becomes of a path.
+    fn note(&mut self, path: &RelPath) -> Result<(), DiskFault>
+        ensures copies { (self.new.was ≡ self.old.was) × (self.new.wanted ≡ self.old.wanted) }
+        ensures planned { OnOk result (IsPlanned self.old.was.now self.old.wanted.now self.new.changes.entries path.now) }
+        ensures stay { OnOk result (StayPlanned self.old.was.now self.old.wanted.now self.old.changes.entries self.new.changes.entries) }
+    {
+        let Some(change) = change_of(self.was.get(path), self.wanted.get(path)) else {
+            return Ok(());
+        };
+        self.changes.insert(path.clone()?, change)?;
+        Ok(())
+    }
+
     // Notes what becomes of each path of a copy.
     fn note_all(&mut self, copy: &WorkingCopy) -> Result<(), DiskFault>
         ensures copies { (self.new.was ≡ self.old.was) × (self.new.wanted ≡ self.old.wanted) }
+        ensures each { OnOk result ((p : Path) → is_some (get_in copy.now p) ≡ true → IsPlanned self.old.was.now self.old.wanted.now self.new.changes.entries p) }
+        ensures stay { OnOk result (StayPlanned self.old.was.now self.old.wanted.now self.old.changes.entries self.new.changes.entries) }
     {
         for (path, _) in copy.iter() {
-            if let Some(change) = change_of(self.was.get(path), self.wanted.get(path)) {
-                self.changes.insert(path.clone()?, change)?;
-            }
+            self.note(path)?;
         }
         Ok(())
     }
@@ -190,42 +156,73 @@ impl<'a> Plan<'a> {
         Ok(above)
     }
 
-    /// Plans the directories that aren't on disk, and that something comes in.
-    pub(crate) fn restore<F: Folder>(&mut self, alloc: Global, folder: &F) -> Result<(), DiskFault>
+    // Plans that something is made again.
+    fn restore_at(&mut self, path: RelPath) -> Result<(), DiskFault>
         ensures copies { (self.new.was ≡ self.old.was) × (self.new.wanted ≡ self.old.wanted) }
+        ensures stay { is_on_disk_at self.old.changes.entries path ≡ false → is_present (get_in self.old.wanted.now path) ≡ true → OnOk result (StayPlanned self.old.was.now self.old.wanted.now self.old.changes.entries self.new.changes.entries) }
     {
-        for path in self.above_makings(alloc)? {
-            let is_planned = match self.changes.get(&path) {
-                Some(change) => change.makes(),
-                None => false,
-            };
-            if !is_planned && folder.look(alloc, &path)?.is_none() {
-                self.changes.insert(path, Change::Restored)?;
-            }
-        }
+        self.changes.insert(path, Change::Restored)?;
         Ok(())
     }
 
     // Whether a node stays, and nothing on disk becomes of it so far.
-    fn stays(&self, path: &RelPath) -> bool {
-        let is_planned = match self.changes.get(path) {
-            Some(change) => change.is_on_disk(),
-            None => false,
-        };
+    fn stays(&self, path: &RelPath) -> bool
+        ensures { result ≡ true → (is_on_disk_at self.now.changes.entries path.now ≡ false) × (is_present (get_in self.now.wanted.now path.now) ≡ true) }
+    {
         match self.wanted.get(path) {
-            Some(node) => node.is_present() && !is_planned,
+            Some(node) => node.is_present() && !self.changes_on_disk(path),
             None => false,
         }
+    }
+
+    // Plans a directory that something comes in, and so stays, to be made again if nothing is there.
+    fn restore_if_missing<F: Folder>(
+        &mut self,
+        alloc: Global,
+        folder: &F,
+        path: RelPath,
+    ) -> Result<(), DiskFault>
+        ensures copies { (self.new.was ≡ self.old.was) × (self.new.wanted ≡ self.old.wanted) }
+        ensures stay { OnOk result (StayPlanned self.old.was.now self.old.wanted.now self.old.changes.entries self.new.changes.entries) }
+    {
+        if !self.stays(&path) {
+            return Ok(());
+        }
+        if folder.look(alloc, &path)?.is_some() {
+            return Ok(());
+        }
+        self.restore_at(path)
+    }
+
+    /// Plans the directories that aren't on disk, and that something comes in.
+    pub(crate) fn restore<F: Folder>(&mut self, alloc: Global, folder: &F) -> Result<(), DiskFault>
+        ensures copies { (self.new.was ≡ self.old.was) × (self.new.wanted ≡ self.old.wanted) }
+        ensures stay { OnOk result (StayPlanned self.old.was.now self.old.wanted.now self.old.changes.entries self.new.changes.entries) }
+    {
+        for path in self.above_makings(alloc)? {
+            self.restore_if_missing(alloc, folder, path)?;
+        }
+        Ok(())
+    }
+
+    // Plans a node that stays to be made again.
+    fn restore_if_it_stays(&mut self, path: &RelPath) -> Result<(), DiskFault>
+        ensures copies { (self.new.was ≡ self.old.was) × (self.new.wanted ≡ self.old.wanted) }
+        ensures stay { OnOk result (StayPlanned self.old.was.now self.old.wanted.now self.old.changes.entries self.new.changes.entries) }
+    {
+        if !self.stays(path) {
+            return Ok(());
+        }
+        self.restore_at(path.clone()?)
     }
 
     /// Plans those of these nodes that stay, since they aren't on disk.
     pub(crate) fn restore_nodes(&mut self, missing: &BTreeSet<RelPath>) -> Result<(), DiskFault>
         ensures copies { (self.new.was ≡ self.old.was) × (self.new.wanted ≡ self.old.wanted) }
+        ensures stay { OnOk result (StayPlanned self.old.was.now self.old.wanted.now self.old.changes.entries self.new.changes.entries) }
     {
         for path in missing {
-            if self.stays(path) {
-                self.changes.insert(path.clone()?, Change::Restored)?;
-            }
+            self.restore_if_it_stays(path)?;
         }
         Ok(())
     }
@@ -246,7 +243,9 @@ impl<'a> Plan<'a> {
     }
 
     /// Whether something changes on disk at a path.
-    pub(crate) fn changes_on_disk(&self, path: &RelPath) -> bool {
+    pub(crate) fn changes_on_disk(&self, path: &RelPath) -> bool
+        ensures { result ≡ is_on_disk_at self.now.changes.entries path.now }
+    {
         match self.changes.get(path) {
             Some(change) => change.is_on_disk(),
             None => false,
@@ -388,7 +387,8 @@ impl<'a> Plan<'a> {
 
     /// What becomes of each path, in path order.
     pub(crate) fn into_changes(self, alloc: Global) -> Result<Vec<PathChange>, DiskFault>
-        ensures { IfOk result (λ list. map (λ change. (change.path, change.change)) list.items ≡ self.entry.changes.entries) }
+        ensures list { IfOk result (λ list. map (λ change. (change.path, change.change)) list.items ≡ self.entry.changes.entries) }
+        ensures order { OnOk result (IsStrictlySortedBy path_cmp (keys_of self.entry.changes.entries)) }
     {
         let Plan { changes, .. } = self;
         let mut list = Vec::new(alloc);

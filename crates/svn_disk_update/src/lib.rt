@@ -33,8 +33,9 @@
 //! is what the run left, so the update theorem says what it is ([`reach`], by `IsReached`): closed, path by path the target, and stopped, what the accepted calls
 //! make of the old one. Whatever was asked for, the new copy is true of the repository ([`reach`], by `IsTrueOf`). With `sync`, where the old copy is on the
 //! disk with each of its texts, a crash at any moment of [`update`] leaves the old copy or one that is true of the repository (`crash`, by `IsThereOrTrue`), and
-//! once it has returned Ok one that is true (`after`), of a whole copy the one at which the run arrived (`whole`, by `IsArrived`). Only tested: the lines of a
-//! single node, and all that Subversion does likewise (`examples/subversion/updates.sh`).
+//! once it has returned Ok one that is true (`after`), of a whole copy the one at which the run arrived (`whole`, by `IsArrived`). Each path that it returns as
+//! changed is then as it says, between the old copy and one that is true (`ends`, by `IsUpdated`). Only tested: the lines of a single node, and all that
+//! Subversion does likewise (`examples/subversion/updates.sh`).
 //!
 //! Definitions, in the order of reading: `specs/Reaching.antt` (where a run leads), `Arriving.antt` (what is in the folder then).
 #![tactic(auto)]

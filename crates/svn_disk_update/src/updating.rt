@@ -4,7 +4,7 @@ ghost use Rattle.svn_model.specs.Nodes.{get_in, IsTrueOf};
 ghost use Rattle.svn_run.specs.UpdateTheorem.{asked};
 ghost use Rattle.svn_disk.specs.Crashes.{IsKept, IsThereOrTrue, IsTrueThere, LeavesFrom, AfterFrom};
 ghost use Rattle.svn_disk_update.specs.Reaching.{IsReached};
-ghost use Rattle.svn_disk_update.specs.Arriving.{request_at, IsArrived};
+ghost use Rattle.svn_disk_update.specs.Arriving.{request_at, IsArrived, IsUpdated, IsToUpdate};
 
 use crate::fault::UpdateFault;
 use crate::reaching::reach;
@@ -55,6 +55,7 @@ impl Leading {
     fn updated(self, changes: Vec<PathChange>) -> Updated
         ensures rev { result.rev ≡ self.rev }
         ensures stopped { result.stopped ≡ self.stopped }
+        ensures changes { result.changes ≡ changes }
     {
         Updated {
             rev: self.rev,
@@ -139,7 +140,9 @@ pub fn would_update<R: Threads + Wait + Sync, F: Folder>(
     alloc: Global,
     folder: &F,
     what: &Aim<'_>,
-) -> Result<Updated, UpdateFault> {
+) -> Result<Updated, UpdateFault>
+    ensures { IfOk result (λ updated. IsToUpdate what.now.repo.now what.now.existing.now.copy updated.changes.items) }
+{
     let leading = find(rt, alloc, folder, what)?;
     let changes = changes(alloc, folder, what.existing, &leading.wanted)?;
     Ok(leading.updated(changes))
@@ -161,6 +164,7 @@ pub fn update<R: Threads + Wait + Sync, F: Folder, S: Source>(
 ) -> Result<Updated, UpdateFault>
     ensures crash { what.now.sync ≡ true → LeavesFrom (IsKept what.now.existing.now.copy) (IsThereOrTrue what.now.existing.now.copy what.now.repo.now) (F.past folder.old.folder) (F.past folder.new.folder) }
     ensures after { what.now.sync ≡ true → OnOk result (AfterFrom (IsKept what.now.existing.now.copy) (IsTrueThere what.now.repo.now) (F.past folder.old.folder) (F.past folder.new.folder)) }
+    ensures ends { IfOk result (λ updated. IsUpdated what.now.repo.now what.now.existing.now.copy (F.past folder.old.folder) updated.changes.items (F.past folder.new.folder)) }
     ensures whole { what.now.sync ≡ true → what.now.path.now ≡ [] → IfOk result (λ updated. AfterFrom (IsKept what.now.existing.now.copy) (IsArrived what.now.repo.now what.now.existing.now.copy (request_at what.now updated.rev) updated.stopped) (F.past folder.old.folder) (F.past folder.new.folder)) }
 {
     let leading = find(rt, alloc, folder, what)?;

@@ -2,12 +2,14 @@
 
 use crate::copies::{Stopping, empty, make};
 use crate::stops::stopped;
-use anyhow::Result;
+use anyhow::{Result, bail};
 use std::alloc::Global;
 use svn_disk::resume;
 use svn_folder::{Entry, Folder, MemoryFolder, Mode, Step};
 use svn_types::{RelPath, Text};
 use svn_wc::WorkingCopy;
+use svn_wcdb::read_base_tree;
+use svn_wcrows::{Numbers, Work, read_tables, work_rows, write_copy};
 
 /// What is there before, and on the disk: a directory at each of these paths.
 const TAKEN: [&str; 5] = [".svn", ".svn-new", "a", "d", "other"];
@@ -67,6 +69,39 @@ fn edited(alloc: Global, copy: &WorkingCopy, whole: &MemoryFolder) -> Result<Mem
     Ok(folder)
 }
 
+// A database with the same nodes as this one, and a queue with work that is there twice.
+fn twice(alloc: Global, database: &[u8]) -> Result<Vec<u8>> {
+    let mut tables = read_tables(alloc, database)?;
+    let mut items = Vec::new(alloc);
+    for path in ["d/b", "a", "d/b"] {
+        items.push(Work::InstallFile(RelPath::parse(alloc, path)?))?;
+    }
+    tables.work_queue = work_rows(alloc, &items, tables.last_work)?;
+    tables.last_work = tables.last_work.saturating_add(items.len() as u64);
+    let Ok(tree) = read_base_tree(alloc, database) else {
+        bail!("the database is refused")
+    };
+    Ok(write_copy(alloc, &tables, Numbers::with_work(7), &tree.nodes)?)
+}
+
+// A copy with work left that is there twice.
+fn repeated(alloc: Global, copy: &WorkingCopy, whole: &MemoryFolder) -> Result<MemoryFolder> {
+    let limit = (whole.steps().len() as u64).saturating_sub(4);
+    let mut folder = stopped(alloc, copy, limit)?;
+    let path = RelPath::parse(alloc, ".svn/wc.db")?;
+    let Some(Entry::File(bytes, mode)) = folder.look(alloc, &path)? else {
+        bail!("there is no database")
+    };
+    let image = Text::new(twice(alloc, bytes.as_slice())?);
+    folder.take(Step::RemoveFile(path.clone()?))?;
+    folder.take(Step::Make {
+        path,
+        entry: Entry::File(image, mode),
+        modified: None,
+    })?;
+    Ok(folder)
+}
+
 /// Tries each refusal.
 pub(crate) fn try_refusals<R: Print + AllocGlobal>(
     rt: &R,
@@ -80,6 +115,11 @@ pub(crate) fn try_refusals<R: Print + AllocGlobal>(
     println!(rt;
         "resume over an edited file: {}",
         resumed(rt.alloc(), &mut edited)?
+    )?;
+    let mut repeated = repeated(rt.alloc(), copy, whole)?;
+    println!(rt;
+        "resume of work that is there twice: {}",
+        resumed(rt.alloc(), &mut repeated)?
     )?;
     Ok(())
 }

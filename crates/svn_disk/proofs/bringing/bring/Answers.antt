@@ -11,6 +11,7 @@ use Rattle.svn_disk.specs.declared.plan.PathChange.{PathChange}
 use Rattle.svn_disk.specs.Changes.{removals_of, makings_of, AreChanged}
 use Rattle.svn_disk.specs.Ends.{Turns, EachDone}
 use Rattle.svn_disk.proofs.EndsChange.{changes_done, on_value}
+use Rattle.svn_disk.proofs.EachChange.{list_of}
 use Rattle.svn_disk.proofs.bringing.bring.Goals as goal
 
 pub returns-in_err-plan-clause-crash : goal.returns-in_err-plan-clause-crash
@@ -43,12 +44,17 @@ returns-clause-ends g c =
     let entries = plan.changes.entries in
     let was = g.F.Folder.past c.args.folder.now.folder in
     let now = g.F.Folder.past c.bring_by.new.folder.folder in
-    let planned = c.in_ok-bring_by.ensures.ends c.in_ok-plan.ensures.1 in
+    let planned = c.in_ok-bring_by.ensures.ends c.in_ok-plan.ensures.copies.1 in
     let copies = subst (λ (x : List (Path × BaseNode)). Turns (λ a b. EachDone new (removals_of plan.was.now entries ++ makings_of x entries)
-    (removals_of plan.was.now entries ++ makings_of x entries) b) was now) c.in_ok-plan.ensures.1 planned in
+    (removals_of plan.was.now entries ++ makings_of x entries) b) was now) c.in_ok-plan.ensures.copies.1 planned in
     let done = subst (λ (x : List (Path × BaseNode)). Turns (λ a b. EachDone new (removals_of x entries ++ makings_of new entries)
-    (removals_of x entries ++ makings_of new entries) b) was now) c.in_ok-plan.ensures.0 copies in
+    (removals_of x entries ++ makings_of new entries) b) was now) c.in_ok-plan.ensures.copies.0 copies in
     on_value (λ (list : Vec PathChange Global). map (λ (change : PathChange). (change.path, change.change)) list.items ≡ entries)
     (λ (list : Vec PathChange Global). Turns (λ a b. AreChanged old new list.items b) was now) c.into_changes.result
     (λ list is. turns_along (λ a b. AreChanged old new list.items b) (λ a b all. changes_done old new entries list.items b is all) done)
-    c.into_changes.ensures
+    c.into_changes.ensures.list
+
+pub returns-clause-each : goal.returns-clause-each
+returns-clause-each g c =
+    list_of c.args.existing.now.copy c.args.wanted.now.copy c.in_ok-plan.plan.changes.entries c.into_changes.result c.into_changes.ensures.list
+    c.into_changes.ensures.order c.in_ok-plan.ensures.each

@@ -6,9 +6,9 @@ use Rattle.svn_disk.proofs.Running.{breaks_leaves}
 use Rattle.svn_disk.proofs.Copies.{mend_none, leaves_read, after_read_ok}
 use Rattle.svn_disk.proofs.Queue.{either_read}
 use Rattle.svn_disk.specs.declared.plan.PathChange.{PathChange}
-use Rattle.svn_disk.specs.Changes.{AreChanged, IsMended}
+use Rattle.svn_disk.specs.Changes.{AreChanged, HasEachChange, IsMended}
 use Rattle.svn_disk.specs.Ends.{Turns}
-use Rattle.svn_disk.proofs.EndsChange.{on_value}
+use Rattle.svn_disk.proofs.EndsChange.{on_value, on_both}
 use Rattle.svn_disk.proofs.mending.mend.Goals as goal
 
 pub returns-in_err-existing-clause-steps : goal.returns-in_err-existing-clause-steps
@@ -57,6 +57,15 @@ returns-clause-ends g c =
     let new = c.in_ok-existing.wanted.copy in
     let was = g.F.Folder.past c.args.folder.now.folder in
     let now = g.F.Folder.past c.bring.new.folder.folder in
-    on_value (λ (list : Vec PathChange Global). Turns (λ a b. AreChanged old new list.items b) was now)
+    on_value (λ (list : Vec PathChange Global). HasEachChange old new list.items × Turns (λ a b. AreChanged old new list.items b) was now)
     (λ (list : Vec PathChange Global). IsMended c.args.what.now.repo.now was list.items now) c.bring.result
-    (λ list turns. record { copy = old; other = new; was = c.in_ok-existing.ensures.was; is_true = c.in_ok-existing.ensures.is_true; ends = turns }) c.bring.ensures.ends
+    (λ list is. record {
+      copy = old;
+      other = new;
+      was = c.in_ok-existing.ensures.was;
+      is_true = c.in_ok-existing.ensures.is_true;
+      each = is.0;
+      ends = is.1;
+    })
+    (on_both (λ (list : Vec PathChange Global). HasEachChange old new list.items)
+    (λ (list : Vec PathChange Global). Turns (λ a b. AreChanged old new list.items b) was now) c.bring.result c.bring.ensures.each c.bring.ensures.ends)

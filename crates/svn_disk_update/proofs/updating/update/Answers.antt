@@ -1,3 +1,7 @@
+use Rattle.std.proofs.Common.{Vec, Global, subst, sym}
+use Rattle.svn_disk.specs.declared.plan.PathChange.{PathChange}
+use Rattle.svn_disk.specs.Changes.{AreChanged, HasEachChange}
+use Rattle.svn_disk.specs.Ends.{Turns}
 use Rattle.svn_disk.specs.Crashes.{IsKept}
 use Rattle.svn_disk.proofs.Running.{breaks_leaves}
 use Rattle.svn_disk.proofs.Copies.{mend_none}
@@ -32,3 +36,15 @@ returns-clause-whole g c = λ sync root.
     (arrived c.args.what.now.repo.now c.args.what.now.existing.now.copy c.args.what.now c.in_ok-leading.leading.rev c.updated.result.rev c.in_ok-leading.leading.stopped
     c.updated.result.stopped c.in_ok-leading.leading.wanted.copy c.updated.ensures.rev c.updated.ensures.stopped (c.in_ok-leading.ensures.whole root))
     (c.in_ok-changes.ensures.after sync)
+
+pub returns-clause-ends : goal.returns-clause-ends
+returns-clause-ends g c =
+    let copy = c.in_ok-leading.leading.wanted.copy in
+    record {
+      copy = copy;
+      is_true = c.in_ok-leading.ensures.truth;
+      each = subst (λ (list : Vec PathChange Global). HasEachChange c.args.what.now.existing.now.copy copy list.items) (sym c.updated.ensures.changes)
+          c.in_ok-changes.ensures.each;
+      ends = subst (λ (list : Vec PathChange Global). Turns (λ a b. AreChanged c.args.what.now.existing.now.copy copy list.items b)
+          (g.F.Folder.past c.args.folder.now.folder) (g.F.Folder.past c.bring.new.folder.folder)) (sym c.updated.ensures.changes) c.in_ok-changes.ensures.ends;
+    }
