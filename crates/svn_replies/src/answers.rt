@@ -16,7 +16,7 @@ use svn_wire::Token;
 
 /// `check-path`: what is at a path.
 #[tactic(auto, unfolding(crate::specs::Commands::kind_answer, crate::specs::Answers::success))]
-pub(crate) fn answer_kind(
+pub fn answer_kind(
     view: View<'_>,
     fields: &[Token],
     out: &mut Vec<u8>,
@@ -50,7 +50,7 @@ fn place_of(view: View<'_>, fields: &[Token]) -> Result<Place, Refused>
 
 /// `stat`: what is known of a node.
 #[tactic(auto, unfolding(crate::specs::Answers::success))]
-pub(crate) fn answer_stat(
+pub fn answer_stat(
     view: View<'_>,
     fields: &[Token],
     out: &mut Vec<u8>,
@@ -92,7 +92,7 @@ fn found_of(view: View<'_>, kind: Kind, fields: &[Token]) -> Result<Found, Refus
 
 /// `get-file`: checksum, properties and text.
 #[tactic(auto, unfolding(crate::specs::Answers::success))]
-pub(crate) fn answer_file(
+pub fn answer_file(
     view: View<'_>,
     fields: &[Token],
     out: &mut Vec<u8>,
@@ -118,7 +118,7 @@ fn push_file(view: View<'_>, found: &Found, out: &mut Vec<u8>) -> Result<(), All
 }
 
 /// `get-dir`: properties and entries.
-pub(crate) fn answer_directory(
+pub fn answer_directory(
     view: View<'_>,
     fields: &[Token],
     out: &mut Vec<u8>,
@@ -146,7 +146,7 @@ fn push_directory(view: View<'_>, found: &Found, out: &mut Vec<u8>) -> Result<()
 
 /// `get-iprops`: the properties of the directories above a node, from the root down.
 #[tactic(auto, unfolding(crate::specs::Commands::inherited_answer, crate::specs::Answers::success))]
-pub(crate) fn answer_inherited(
+pub fn answer_inherited(
     view: View<'_>,
     fields: &[Token],
     out: &mut Vec<u8>,

@@ -15,7 +15,7 @@ use svn_wire::{Token, number_field, text_field};
 
 /// `get-latest-rev`.
 #[tactic(auto, unfolding(crate::specs::Answers::success))]
-pub(crate) fn answer_latest(view: View<'_>, out: &mut Vec<u8>) -> Result<(), Refused>
+pub fn answer_latest(view: View<'_>, out: &mut Vec<u8>) -> Result<(), Refused>
     ensures { Answers out.old.items result out.new.items (latest_answer view.entry.served.now.repo) }
 {
     push_success(out)?;
@@ -49,7 +49,7 @@ fn dated(revisions: &Revisions, last: Rev, date: &[u8]) -> Rev
 
 /// `get-dated-rev`: the last revision that isn't younger than a date.
 #[tactic(auto, unfolding(crate::specs::Commands::dated_answer, crate::specs::Answers::success))]
-pub(crate) fn answer_dated(
+pub fn answer_dated(
     view: View<'_>,
     fields: &[Token],
     out: &mut Vec<u8>,
@@ -67,7 +67,7 @@ pub(crate) fn answer_dated(
 
 /// `rev-prop`: the value of a property of a revision.
 #[tactic(auto, unfolding(crate::specs::Commands::rev_prop_answer, crate::specs::Answers::success))]
-pub(crate) fn answer_rev_prop(
+pub fn answer_rev_prop(
     view: View<'_>,
     fields: &[Token],
     out: &mut Vec<u8>,
@@ -85,7 +85,7 @@ pub(crate) fn answer_rev_prop(
 
 /// `rev-proplist`: the properties of a revision.
 #[tactic(auto, unfolding(crate::specs::Commands::rev_props_answer, crate::specs::Answers::success))]
-pub(crate) fn answer_rev_props(
+pub fn answer_rev_props(
     view: View<'_>,
     fields: &[Token],
     out: &mut Vec<u8>,
