@@ -2,3 +2,5 @@
 pub mod Backwards
 -- locations that are written one after another
 pub mod Located
+-- the revisions of a log, found one after another, and the paths that they are about
+pub mod Logged

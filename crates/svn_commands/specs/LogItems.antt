@@ -101,22 +101,25 @@ source_bytes (Some source) = text_bytes (whole_path source.path) ++ number_bytes
 abbrev pub what_bytes : Served → ℕ → PathChange → List ℕ
 what_bytes s r change = text_bytes (kind_word (kind_of s r change)) ++ (bool_bytes change.text ++ bool_bytes change.props)
 
-unfoldable pub change_bytes : Served → ℕ → PathChange → List ℕ
-change_bytes s r change =
-    listed (text_bytes (whole_path change.path)
-    ++ (word_bytes (action_word change.action) ++ (listed (source_bytes change.source) ++ listed (what_bytes s r change))))
+abbrev pub change_fields : Served → ℕ → PathChange → List ℕ
+change_fields s r change =
+    text_bytes (whole_path change.path)
+    ++ (word_bytes (action_word change.action) ++ (listed (source_bytes change.source) ++ listed (what_bytes s r change)))
 
 -- where they are wanted
 abbrev pub changes_bytes : Bool → Served → ℕ → List ℕ
-changes_bytes true s r = flat_map (change_bytes s r) (changes_of s.changes r)
+changes_bytes true s r = flat_map (λ change. listed (change_fields s r change)) (changes_of s.changes r)
 changes_bytes false s r = []
 
 -- ---- a revision
 
--- nothing was merged in it, its number is one, and it isn't taken back
-unfoldable pub item_bytes : Served → Wanted → ℕ → List ℕ
-item_bytes s wanted r =
-    listed (listed (changes_bytes wanted.changes s r)
-    ++ (number_bytes r
-    ++ (field_bytes s wanted.names r
-    ++ (codes "false false " ++ (others_bytes wanted.names (or_no_props (slice_get s.revisions r)) ++ codes "false ")))))
+-- nothing was merged in it, and its number is one; its other properties; it isn't taken back
+abbrev pub item_end : Served → Names → ℕ → List ℕ
+item_end s names r = codes "false false " ++ (others_bytes names (or_no_props (slice_get s.revisions r)) ++ codes "false ")
+
+abbrev pub item_fields : Served → Wanted → ℕ → List ℕ
+item_fields s wanted r =
+    listed (changes_bytes wanted.changes s r) ++ (number_bytes r ++ (field_bytes s wanted.names r ++ item_end s wanted.names r))
+
+abbrev pub item_bytes : Served → Wanted → ℕ → List ℕ
+item_bytes s wanted r = listed (item_fields s wanted r)

@@ -167,11 +167,7 @@ fn push_locations_in(
     }
 }
 
-fn push_locations(
-    view: View<'_>,
-    asked: &Asked<'_>,
-    out: &mut Vec<u8>,
-) -> Result<(), AllocError>
+fn push_locations(view: View<'_>, asked: &Asked<'_>, out: &mut Vec<u8>) -> Result<(), AllocError>
     ensures { OnOk result ((bytes : List ℕ) × AreLocations view.entry.served.now (asked_as asked.now) bytes × (out.new.items ≡ out.old.items ++ bytes)) }
 {
     let segments = trace(view.served, view.alloc, asked.peg, &asked.path)?;

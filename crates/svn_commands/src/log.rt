@@ -146,7 +146,9 @@ fn is_changed(served: &Served, rev: Rev, segment: &Segment) -> bool
 fn is_logged(served: &Served, segments: &[Segment], rev: Rev) -> bool
     ensures { result ≡ is_logged served.now segments.now rev }
 {
-    segments.iter().any(|segment| is_changed(served, rev, segment))
+    segments
+        .iter()
+        .any(|segment| is_changed(served, rev, segment))
 }
 
 fn push_if_logged(
@@ -197,7 +199,10 @@ fn logged(
     let mut rev = asked.start;
     'revs: loop {
         push_if_logged(view.served, segments, rev, &mut found)?;
-        if rev == asked.end || is_full(asked.wanted.limit, found.len()) {
+        if rev == asked.end {
+            return Ok(found);
+        }
+        if is_full(asked.wanted.limit, found.len()) {
             return Ok(found);
         }
         rev = next_rev(younger, rev, asked.end);
@@ -227,11 +232,7 @@ fn push_log(view: View<'_>, asked: &LogAsked<'_>, out: &mut Vec<u8>) -> Result<(
 }
 
 /// `log`: the revisions that changed paths, in the order that is asked for.
-pub(crate) fn answer_log(
-    view: View<'_>,
-    fields: &[Token],
-    out: &mut Vec<u8>,
-) -> Result<(), Refused>
+pub(crate) fn answer_log(view: View<'_>, fields: &[Token], out: &mut Vec<u8>) -> Result<(), Refused>
     ensures { Lists (IsLog view.entry.served.now) out.old.items result out.new.items (log_of view.entry.served.now.repo view.entry.session.now.at fields.now) }
 {
     match read_log(view, fields) {

@@ -1,12 +1,12 @@
 //! What is written of a revision in a log.
-ghost use Rattle.std.specs.Prelude.{◌≡◌, ◌++◌, ◌≤◌, length, slice_get, IfOk, OnOk};
+ghost use Rattle.std.specs.Prelude.{◌≡◌, ◌++◌, [], length, slice_get, if◌then◌else◌, IfOk, OnOk};
 ghost use Rattle.std.specs.List.{flat_map};
 ghost use Rattle.std.specs.Option.{option_copied};
 ghost use Rattle.svn_wire_calls.specs.Calls.{optional};
-ghost use Rattle.svn_replies.specs.Answers.{bool_bytes, pair_bytes};
+ghost use Rattle.svn_replies.specs.Answers.{listed, pair_bytes};
 ghost use Rattle.svn_replies.specs.Commands.{kind_at};
 ghost use Rattle.svn_commands.specs.Asking.{names_as, wanted_as};
-ghost use Rattle.svn_commands.specs.LogItems.{is_the_text, is_named, has_field, wants, wants_also, wanted_value, field_bytes, others, or_no_props, others_bytes, action_word, kind_word, kind_before, kind_of, source_bytes, what_bytes, change_bytes, changes_bytes, item_bytes};
+ghost use Rattle.svn_commands.specs.LogItems.{is_the_text, is_named, has_field, wants, wants_also, wanted_value, field_bytes, others, or_no_props, others_bytes, action_word, kind_word, kind_before, kind_of, source_bytes, what_bytes, change_fields, changes_bytes, item_end, item_fields, item_bytes};
 
 use crate::history::{copy_over, source_path};
 use crate::log_fields::{Names, Wanted};
@@ -65,12 +65,7 @@ fn wants_also(names: Names<'_>, name: &[u8]) -> bool
 }
 
 // A property that has a field of its own, if it is wanted.
-fn wanted_value<'a>(
-    view: View<'a>,
-    names: Names<'_>,
-    rev: Rev,
-    name: &[u8],
-) -> Option<&'a Text>
+fn wanted_value<'a>(view: View<'a>, names: Names<'_>, rev: Rev, name: &[u8]) -> Option<&'a Text>
     ensures { option_copied result ≡ wanted_value view.entry.served.now (names_as names) rev name.now }
 {
     if wants(names, name) {
@@ -94,6 +89,12 @@ fn push_fields(
     push_optional(out, wanted_value(view, names, rev, b"svn:log"))
 }
 
+fn one_if(is_counted: bool) -> usize
+    ensures { result ≡ (if is_counted then 1 else 0) }
+{
+    if is_counted { 1 } else { 0 }
+}
+
 // How many other properties are wanted.
 fn others_len(names: Names<'_>, props: &Props) -> usize
     ensures { result ≡ length (others (names_as names) props.now) }
@@ -101,9 +102,7 @@ fn others_len(names: Names<'_>, props: &Props) -> usize
     let most = props.len();
     let mut count: usize = 0;
     for (name, _value) in props.iter() {
-        if wants_also(names, name.as_str().as_bytes()) {
-            count += 1;
-        }
+        count += one_if(wants_also(names, name.as_str().as_bytes()));
     }
     count
 }
@@ -123,11 +122,7 @@ fn push_if_wanted(
     }
 }
 
-fn push_other_pairs(
-    out: &mut Vec<u8>,
-    names: Names<'_>,
-    props: &Props,
-) -> Result<(), AllocError>
+fn push_other_pairs(out: &mut Vec<u8>, names: Names<'_>, props: &Props) -> Result<(), AllocError>
     ensures { OnOk result (out.new.items ≡ out.old.items ++ flat_map (λ prop. pair_bytes prop.0 prop.1) (others (names_as names) props.now)) }
 {
     for (name, value) in props.iter() {
@@ -238,33 +233,58 @@ fn push_what(
     push_bool(out, change.props)
 }
 
+// A list of where what is there was copied from.
+fn push_source_list(out: &mut Vec<u8>, source: &Option<CopySource>) -> Result<(), AllocError>
+    ensures { OnOk result (out.new.items ≡ out.old.items ++ listed (source_bytes source.now)) }
+{
+    push_open(out)?;
+    push_source(out, source)?;
+    push_close(out)
+}
+
+fn push_what_list(
+    view: View<'_>,
+    rev: Rev,
+    change: &PathChange,
+    out: &mut Vec<u8>,
+) -> Result<(), AllocError>
+    ensures { OnOk result (out.new.items ≡ out.old.items ++ listed (what_bytes view.entry.served.now rev change.now)) }
+{
+    push_open(out)?;
+    push_what(view, rev, change, out)?;
+    push_close(out)
+}
+
+// Path, action, source and kind.
+fn push_change_fields(
+    view: View<'_>,
+    rev: Rev,
+    change: &PathChange,
+    out: &mut Vec<u8>,
+) -> Result<(), AllocError>
+    ensures { OnOk result (out.new.items ≡ out.old.items ++ change_fields view.entry.served.now rev change.now) }
+{
+    push_whole_path(out, &change.path)?;
+    push_word(out, action_word(change.action))?;
+    push_source_list(out, &change.source)?;
+    push_what_list(view, rev, change, out)
+}
+
 fn push_change(
     view: View<'_>,
     rev: Rev,
     change: &PathChange,
     out: &mut Vec<u8>,
 ) -> Result<(), AllocError>
-    ensures { OnOk result (out.new.items ≡ out.old.items ++ change_bytes view.entry.served.now rev change.now) }
+    ensures { OnOk result (out.new.items ≡ out.old.items ++ listed (change_fields view.entry.served.now rev change.now)) }
 {
     push_open(out)?;
-    push_whole_path(out, &change.path)?;
-    push_word(out, action_word(change.action))?;
-    push_open(out)?;
-    push_source(out, &change.source)?;
-    push_close(out)?;
-    push_open(out)?;
-    push_what(view, rev, change, out)?;
-    push_close(out)?;
+    push_change_fields(view, rev, change, out)?;
     push_close(out)
 }
 
 // The paths that a revision changed, where they are wanted.
-fn push_changes(
-    view: View<'_>,
-    wanted: bool,
-    rev: Rev,
-    out: &mut Vec<u8>,
-) -> Result<(), AllocError>
+fn push_changes(view: View<'_>, wanted: bool, rev: Rev, out: &mut Vec<u8>) -> Result<(), AllocError>
     ensures { OnOk result (out.new.items ≡ out.old.items ++ changes_bytes wanted view.entry.served.now rev) }
 {
     if !wanted {
@@ -274,6 +294,47 @@ fn push_changes(
         push_change(view, rev, change, out)?;
     }
     Ok(())
+}
+
+fn push_changes_list(
+    view: View<'_>,
+    wanted: bool,
+    rev: Rev,
+    out: &mut Vec<u8>,
+) -> Result<(), AllocError>
+    ensures { OnOk result (out.new.items ≡ out.old.items ++ listed (changes_bytes wanted view.entry.served.now rev)) }
+{
+    push_open(out)?;
+    push_changes(view, wanted, rev, out)?;
+    push_close(out)
+}
+
+// That nothing was merged in a revision and its number is one, its other properties, and that it isn't taken back.
+fn push_item_end(
+    view: View<'_>,
+    names: Names<'_>,
+    rev: Rev,
+    out: &mut Vec<u8>,
+) -> Result<(), AllocError>
+    ensures { OnOk result (out.new.items ≡ out.old.items ++ item_end view.entry.served.now (names_as names) rev) }
+{
+    out.extend_from_slice(b"false false ")?;
+    push_others_at(view, names, rev, out)?;
+    out.extend_from_slice(b"false ")
+}
+
+fn push_item_fields(
+    view: View<'_>,
+    wanted: Wanted<'_>,
+    rev: Rev,
+    out: &mut Vec<u8>,
+) -> Result<(), AllocError>
+    ensures { OnOk result (out.new.items ≡ out.old.items ++ item_fields view.entry.served.now (wanted_as wanted) rev) }
+{
+    push_changes_list(view, wanted.changes, rev, out)?;
+    push_rev(out, rev)?;
+    push_fields(view, wanted.names, rev, out)?;
+    push_item_end(view, wanted.names, rev, out)
 }
 
 /// What is wanted of a revision.
@@ -286,15 +347,6 @@ pub(crate) fn push_item(
     ensures { OnOk result (out.new.items ≡ out.old.items ++ item_bytes view.entry.served.now (wanted_as wanted) rev) }
 {
     push_open(out)?;
-    push_open(out)?;
-    push_changes(view, wanted.changes, rev, out)?;
-    push_close(out)?;
-    push_rev(out, rev)?;
-    push_fields(view, wanted.names, rev, out)?;
-    // nothing was merged in it, and its number is one
-    out.extend_from_slice(b"false false ")?;
-    push_others_at(view, wanted.names, rev, out)?;
-    // nor is it taken back
-    out.extend_from_slice(b"false ")?;
+    push_item_fields(view, wanted, rev, out)?;
     push_close(out)
 }

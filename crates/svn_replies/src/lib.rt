@@ -41,6 +41,6 @@ pub use revisions::{answer_dated, answer_latest, answer_rev_prop, answer_rev_pro
 pub use served::{Revisions, Served};
 pub use session::{Place, Session, View, failed, read_path};
 pub use writing::{
-    push_bool, push_close, push_done, push_end, push_failure, push_kind, push_no_mechanism, push_open,
-    push_optional, push_pair, push_rev, push_success, push_whole_path,
+    push_bool, push_close, push_done, push_end, push_failure, push_kind, push_no_mechanism,
+    push_open, push_optional, push_pair, push_rev, push_success, push_whole_path,
 };
