@@ -1,6 +1,7 @@
 //! `log`: the revisions that changed paths.
 ghost use Rattle.std.specs.Prelude.{◌≡◌, ◌≢◌, ◌≤◌, ◌+◌, ◌-◌, ◌++◌, [], ◌∷◌, ℕ, List, true, false, max, if◌then◌else◌, IfOk, OnOk};
-ghost use Rattle.std.specs.List.{filter, flat_map};
+ghost use Rattle.std.specs.List.{filter, flat_map, list_any};
+ghost use Rattle.svn_types.specs.Paths.{is_within};
 ghost use Rattle.svn_replies.specs.Refusals.{Gives};
 ghost use Rattle.svn_commands.specs.declared.history.Segment.{Segment};
 ghost use Rattle.svn_commands.specs.Asking.{log_as, wanted_as};
@@ -14,7 +15,7 @@ use crate::history::{Segment, has_rev, trace};
 use crate::log_fields::{Wanted, log_fields};
 use crate::log_items::push_item;
 use std::alloc::AllocError;
-use svn_replies::{Refused, Served, View};
+use svn_replies::{PathChange, Refused, Served, View};
 use svn_types::{RelPath, Rev};
 use svn_wire::Token;
 
@@ -114,16 +115,24 @@ fn traced(view: View<'_>, asked: &LogAsked<'_>) -> Result<Vec<Segment>, AllocErr
     Ok(all)
 }
 
+fn is_within(change: &PathChange, path: &RelPath) -> bool
+    ensures { result ≡ is_within path.now change.now.path }
+{
+    change.path.is_within(path)
+}
+
+// Whether one of the changes is at a path or below it.
+fn is_one_within(changes: &[PathChange], path: &RelPath) -> bool
+    ensures { result ≡ list_any (λ change. is_within path.now change.path) changes.now }
+{
+    changes.iter().any(|change| is_within(change, path))
+}
+
 // Whether a revision changed what is at a path or below it; the root changes in each.
 fn is_touched(served: &Served, rev: Rev, path: &RelPath) -> bool
     ensures { result ≡ is_touched served.now rev path.now }
 {
-    path.is_root()
-        || served
-            .changes
-            .of(rev)
-            .iter()
-            .any(|change| change.path.is_within(path))
+    path.is_root() || is_one_within(served.changes.of(rev), path)
 }
 
 fn is_changed_at(served: &Served, rev: Rev, first: Rev, path: &Option<RelPath>) -> bool
