@@ -1,7 +1,7 @@
 -- The revisions of a log, found one after another, and the paths that they are about.
 use Rattle.std.proofs.Common.{◌≡◌, ◌≢◌, ℕ, zero, suc, ◌+◌, ◌-◌, ◌<◌, ◌≤◌, Bool, true, false, cond, List, [], ◌∷◌, ◌++◌, length, get_or, take, drop, drop-cons, append_assoc, append-nil, length-append, arith, refl, sym, ap, subst, ◌∙◌}
 use Rattle.std.specs.Prelude.{◌&&◌, nat_le, nat_lt, Result, Ok, Err, if◌then◌else◌}
-use Rattle.std.specs.List.{filter}
+use Rattle.std.specs.List.{filter, flat_map}
 use Rattle.std.proofs.Math.Seq.{take-append_seam, take-nil}
 use Rattle.std.proofs.Math.Bool.{and-false, true-and}
 use Rattle.std.proofs.Math.Dec.{leb-suc-zero}
@@ -22,6 +22,12 @@ pub at_front : {X : Type 0} (xs : List X) (i : ℕ) (x : X) → i < length xs �
 at_front xs i x within is =
     let next : suc i ≡ i + 1 = omega arith in
     drop-cons xs i x within ∙ ap (λ y. y ∷ drop (suc i) xs) (sym is) ∙ ap (λ j. x ∷ drop j xs) next
+
+pub one_more_written : {X : Type 0} (f : X → List ℕ) (old before new : List ℕ) (all left rest : List X) (x : X)
+    → before ++ flat_map f left ≡ old ++ flat_map f all → left ≡ x ∷ rest → new ≡ before ++ f x → new ++ flat_map f rest ≡ old ++ flat_map f all
+one_more_written {X} f old before new all left rest x written front is =
+    ap (λ (l : List ℕ). l ++ flat_map f rest) is ∙ append_assoc before (f x) (flat_map f rest)
+    ∙ ap (λ (l : List X). before ++ flat_map f l) (sym front) ∙ written
 
 -- ---- paths
 

@@ -224,7 +224,7 @@ fn push_items(
     revs: &[Rev],
     out: &mut Vec<u8>,
 ) -> Result<(), AllocError>
-    ensures { OnOk result (out.new.items ≡ out.old.items ++ flat_map (item_bytes view.entry.served.now (wanted_as wanted)) revs.now) }
+    ensures { OnOk result (out.new.items ≡ out.old.items ++ flat_map (item_bytes view.entry.served.now (wanted_as wanted.entry)) revs.now) }
 {
     for rev in revs {
         push_item(view, wanted, *rev, out)?;

@@ -106,7 +106,7 @@ fn names_of(fields: &[Token]) -> Option<Names<'_>>
 }
 
 fn or_usual(names: Option<Names<'_>>) -> Names<'_>
-    ensures { names_as result ≡ or_usual (option_map names_as names) }
+    ensures { names_as result ≡ or_usual (option_map names_as names.entry) }
 {
     match names {
         Some(names) => names,

@@ -45,7 +45,7 @@ fn has_field(name: &[u8]) -> bool
 
 // Whether one of these is wanted.
 fn wants(names: Names<'_>, name: &[u8]) -> bool
-    ensures { result ≡ wants (names_as names) name.now }
+    ensures { result ≡ wants (names_as names.entry) name.now }
 {
     match names {
         Names::Usual | Names::Every => true,
@@ -55,7 +55,7 @@ fn wants(names: Names<'_>, name: &[u8]) -> bool
 
 // Whether one is wanted beside these.
 fn wants_also(names: Names<'_>, name: &[u8]) -> bool
-    ensures { result ≡ wants_also (names_as names) name.now }
+    ensures { result ≡ wants_also (names_as names.entry) name.now }
 {
     match names {
         Names::Usual => false,
@@ -66,7 +66,7 @@ fn wants_also(names: Names<'_>, name: &[u8]) -> bool
 
 // A property that has a field of its own, if it is wanted.
 fn wanted_value<'a>(view: View<'a>, names: Names<'_>, rev: Rev, name: &[u8]) -> Option<&'a Text>
-    ensures { option_copied result ≡ wanted_value view.entry.served.now (names_as names) rev name.now }
+    ensures { option_copied result ≡ wanted_value view.entry.served.now (names_as names.entry) rev name.now }
 {
     if wants(names, name) {
         view.served.revisions.value(rev, name)
@@ -82,7 +82,7 @@ fn push_fields(
     rev: Rev,
     out: &mut Vec<u8>,
 ) -> Result<(), AllocError>
-    ensures { OnOk result (out.new.items ≡ out.old.items ++ field_bytes view.entry.served.now (names_as names) rev) }
+    ensures { OnOk result (out.new.items ≡ out.old.items ++ field_bytes view.entry.served.now (names_as names.entry) rev) }
 {
     push_optional(out, wanted_value(view, names, rev, b"svn:author"))?;
     push_optional(out, wanted_value(view, names, rev, b"svn:date"))?;
@@ -97,7 +97,7 @@ fn one_if(is_counted: bool) -> usize
 
 // How many other properties are wanted.
 fn others_len(names: Names<'_>, props: &Props) -> usize
-    ensures { result ≡ length (others (names_as names) props.now) }
+    ensures { result ≡ length (others (names_as names.entry) props.now) }
 {
     let most = props.len();
     let mut count: usize = 0;
@@ -113,7 +113,7 @@ fn push_if_wanted(
     name: &[u8],
     value: &Text,
 ) -> Result<(), AllocError>
-    ensures { OnOk result (out.new.items ≡ out.old.items ++ (if wants_also (names_as names) name.now then pair_bytes name.now value.now else [])) }
+    ensures { OnOk result (out.new.items ≡ out.old.items ++ (if wants_also (names_as names.entry) name.now then pair_bytes name.now value.now else [])) }
 {
     if wants_also(names, name) {
         push_pair(out, name, value.as_slice())
@@ -123,7 +123,7 @@ fn push_if_wanted(
 }
 
 fn push_other_pairs(out: &mut Vec<u8>, names: Names<'_>, props: &Props) -> Result<(), AllocError>
-    ensures { OnOk result (out.new.items ≡ out.old.items ++ flat_map (λ prop. pair_bytes prop.0 prop.1) (others (names_as names) props.now)) }
+    ensures { OnOk result (out.new.items ≡ out.old.items ++ flat_map (λ prop. pair_bytes prop.0 prop.1) (others (names_as names.entry) props.now)) }
 {
     for (name, value) in props.iter() {
         push_if_wanted(out, names, name.as_str().as_bytes(), value)?;
@@ -133,7 +133,7 @@ fn push_other_pairs(out: &mut Vec<u8>, names: Names<'_>, props: &Props) -> Resul
 
 // The other properties that are wanted, and how many they are.
 fn push_others(out: &mut Vec<u8>, names: Names<'_>, props: &Props) -> Result<(), AllocError>
-    ensures { OnOk result (out.new.items ≡ out.old.items ++ others_bytes (names_as names) props.now) }
+    ensures { OnOk result (out.new.items ≡ out.old.items ++ others_bytes (names_as names.entry) props.now) }
 {
     push_number(out, others_len(names, props) as u64)?;
     push_open(out)?;
@@ -147,11 +147,14 @@ fn push_others_at(
     rev: Rev,
     out: &mut Vec<u8>,
 ) -> Result<(), AllocError>
-    ensures { OnOk result (out.new.items ≡ out.old.items ++ others_bytes (names_as names) (or_no_props (slice_get view.entry.served.now.revisions rev))) }
+    ensures { OnOk result (out.new.items ≡ out.old.items ++ others_bytes (names_as names.entry) (or_no_props (slice_get view.entry.served.now.revisions rev))) }
 {
     match view.served.revisions.props(rev) {
         Some(props) => push_others(out, names, props),
-        None => out.extend_from_slice(b"0 ( ) "),
+        None => {
+            push_number(out, 0)?;
+            out.extend_from_slice(b"( ) ")
+        }
     }
 }
 
@@ -316,7 +319,7 @@ fn push_item_end(
     rev: Rev,
     out: &mut Vec<u8>,
 ) -> Result<(), AllocError>
-    ensures { OnOk result (out.new.items ≡ out.old.items ++ item_end view.entry.served.now (names_as names) rev) }
+    ensures { OnOk result (out.new.items ≡ out.old.items ++ item_end view.entry.served.now (names_as names.entry) rev) }
 {
     out.extend_from_slice(b"false false ")?;
     push_others_at(view, names, rev, out)?;
@@ -329,7 +332,7 @@ fn push_item_fields(
     rev: Rev,
     out: &mut Vec<u8>,
 ) -> Result<(), AllocError>
-    ensures { OnOk result (out.new.items ≡ out.old.items ++ item_fields view.entry.served.now (wanted_as wanted) rev) }
+    ensures { OnOk result (out.new.items ≡ out.old.items ++ item_fields view.entry.served.now (wanted_as wanted.entry) rev) }
 {
     push_changes_list(view, wanted.changes, rev, out)?;
     push_rev(out, rev)?;
@@ -344,7 +347,7 @@ pub(crate) fn push_item(
     rev: Rev,
     out: &mut Vec<u8>,
 ) -> Result<(), AllocError>
-    ensures { OnOk result (out.new.items ≡ out.old.items ++ item_bytes view.entry.served.now (wanted_as wanted) rev) }
+    ensures { OnOk result (out.new.items ≡ out.old.items ++ item_bytes view.entry.served.now (wanted_as wanted.entry) rev) }
 {
     push_open(out)?;
     push_item_fields(view, wanted, rev, out)?;

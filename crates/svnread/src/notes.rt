@@ -16,7 +16,7 @@ pub(crate) struct Notes {
     latest: Rev,
     props: Vec<Props>,
     changes: Vec<PathChanges>,
-    // what the revision changed that began last
+    // what the records say of the revision that began last
     last: Vec<PathChange>,
 }
 
@@ -110,6 +110,17 @@ fn push_change(changes: &mut Vec<PathChange>, change: PathChange) -> Result<(), 
     Ok(changes.push(change)?)
 }
 
+// What the records of a revision say, each path once, in path order.
+fn changes_of(alloc: Global, records: Vec<PathChange>) -> Result<PathChanges, AllocError> {
+    let mut records = records;
+    records.sort_by(|one, other| one.path.cmp(&other.path))?;
+    let mut changes = Vec::new(alloc);
+    for change in records {
+        push_change(&mut changes, change)?;
+    }
+    Ok(PathChanges::new(changes))
+}
+
 impl Notes {
     /// Nothing yet of the revisions up to the last one.
     pub(crate) fn new(alloc: Global, latest: Rev) -> Notes {
@@ -125,7 +136,7 @@ impl Notes {
     fn end(&mut self, alloc: Global) -> Result<(), AllocError> {
         if self.changes.len() < self.props.len() {
             let last = replace(&mut self.last, Vec::new(alloc));
-            self.changes.push(PathChanges::new(last))?;
+            self.changes.push(changes_of(alloc, last)?)?;
         }
         Ok(())
     }
@@ -157,7 +168,7 @@ impl Notes {
     /// A record that is no revision's: a node's, or none.
     pub(crate) fn change(&mut self, alloc: Global, headers: Headers) -> Result<(), AllocError> {
         match change_of(alloc, headers)? {
-            Some(change) => push_change(&mut self.last, change),
+            Some(change) => Ok(self.last.push(change)?),
             None => Ok(()),
         }
     }

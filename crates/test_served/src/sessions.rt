@@ -76,6 +76,12 @@ fn change_of(node: NodeRecord) -> PathChange {
     }
 }
 
+fn in_order(changes: Vec<PathChange>) -> Result<PathChanges> {
+    let mut changes = changes;
+    changes.sort_by(|one, other| one.path.cmp(&other.path))?;
+    Ok(PathChanges::new(changes))
+}
+
 // Adds what a record says to what the revisions before changed, and to what this one did.
 fn note(
     alloc: Global,
@@ -86,7 +92,7 @@ fn note(
     match record {
         Record::Revision { rev } => {
             if rev.0 > 0 {
-                revs.push(PathChanges::new(replace(last, Vec::new(alloc))))?;
+                revs.push(in_order(replace(last, Vec::new(alloc)))?)?;
             }
         }
         Record::Node(node) => last.push(change_of(node))?,
@@ -106,7 +112,7 @@ fn changes(alloc: Global, dump: &[u8]) -> Result<Changes> {
             None => break,
         }
     }
-    revs.push(PathChanges::new(last))?;
+    revs.push(in_order(last)?)?;
     Ok(Changes::new(revs))
 }
 

@@ -1,5 +1,6 @@
-use Rattle.std.proofs.Common.{◌+◌, drop, max, arith}
+use Rattle.std.proofs.Common.{◌+◌, List, get_or, drop, max, ap, arith, ◌∙◌}
 use Rattle.std.proofs.lemmas.List.{drop_all}
+use Rattle.svn_types.specs.Names.{Path}
 use Rattle.svn_commands.proofs.Logged.{at_front, one_traced, all_traced}
 use Rattle.svn_commands.proofs.log.traced.Goals as goal
 
@@ -9,8 +10,9 @@ loop-path-preserved c =
     let paths = asked.paths.items in
     let i = c.loop-path.path-index in
     let one = c.in_ok-push_traced.ensures in
+    let is = c.path-item.is ∙ ap (λ (l : List Path). get_or l i c.path-item.result) c.deref-path-items.ensures.value in
     one_traced c.args.view.served.now asked.wanted.strict (max asked.start asked.end) c.path-item.result (drop i paths) (drop (i + 1) paths) paths
-    c.loop-path.all.items c.push_traced.new.all.items one.0 c.loop-path.invariant (at_front paths i c.path-item.result (omega arith) c.path-item.is)
+    c.loop-path.all.items c.push_traced.new.all.items one.0 c.loop-path.invariant (at_front paths i c.path-item.result (omega arith) is)
     one.1 one.2
 
 pub returns : goal.returns
