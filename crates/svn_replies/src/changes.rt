@@ -23,7 +23,7 @@ pub struct PathChange {
     pub props: bool,
 }
 
-/// The paths that one revision changed, in the order of the dump.
+/// The paths that one revision changed.
 #[derive(Debug, Drop)]
 pub struct PathChanges {
     list: Vec<PathChange>,
