@@ -2,11 +2,9 @@
 --     path_and_rev fields      a path, a revision or none, and what is after them
 --     node_fields fields      get-file, get-dir: the same, whether properties are wanted, and whether the text or the entries are
 --     prop_fields fields      rev-prop: a revision and a name
---     location_fields fields      get-locations: a path, a revision, and the tokens of a list of revisions
---     segment_fields fields      get-location-segments: a path, a revision or none, and the youngest and the oldest that are asked for
 use Rattle.std.specs.Prelude.{ℕ, Bool, List, Option, Some}
 use Rattle.svn_wire.specs.declared.token.Token.{Token}
-use Rattle.svn_wire.specs.Fields.{◌>>=◌, bool_field, list_field, number_field, optional_number, text_field}
+use Rattle.svn_wire.specs.Fields.{◌>>=◌, bool_field, number_field, optional_number, text_field}
 
 unfoldable pub path_and_rev : List Token → Option (List ℕ × Option ℕ × List Token)
 path_and_rev fields = do
@@ -26,17 +24,3 @@ prop_fields fields = do
   rev ← number_field fields
   name ← text_field rev.1
   Some (rev.0, name.0)
-
-unfoldable pub location_fields : List Token → Option (List ℕ × ℕ × List Token)
-location_fields fields = do
-  path ← text_field fields
-  peg ← number_field path.1
-  revs ← list_field peg.1
-  Some (path.0, peg.0, revs)
-
-unfoldable pub segment_fields : List Token → Option (List ℕ × Option ℕ × Option ℕ × Option ℕ)
-segment_fields fields = do
-  place ← path_and_rev fields
-  start ← optional_number place.2
-  end ← optional_number start.1
-  Some (place.0, place.1, start.0, end.0)

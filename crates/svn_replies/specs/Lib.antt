@@ -4,6 +4,8 @@ pub mod Answers
 pub mod Nodes
 -- values of properties by their names
 pub mod Values
+-- what revisions changed
+pub mod Changes
 -- the last change of a node
 pub mod LastChanges
 -- why a command isn't answered by success
@@ -12,17 +14,11 @@ pub mod Refusals
 pub mod Named
 -- the fields of commands
 pub mod CommandFields
--- what a client is told of a node
+-- what is written of a node
 pub mod NodeBytes
 -- what is answered to commands
 pub mod Commands
 -- what the code holds of what is asked for
 pub mod Asking
--- where nodes were in earlier revisions
-pub mod Segments
--- what is answered to get-locations and get-location-segments
-pub mod Locations
--- the commands of which no report follows
-pub mod Replies
 -- where a client is that names a URL
 pub mod Sessions

@@ -1,4 +1,4 @@
--- What a client is told of a node, with its last change.
+-- What is written of a node, with its last change.
 --     entry_bytes h n told      kind, size, whether there are properties, and the last change
 --     props_bytes h uuid n told      the properties, those that a server makes first
 --     IsEntry s r p n bytes, AreProps s r p n bytes      these are written of node n, which is at path p of revision r

@@ -1,5 +1,5 @@
 -- Why a command isn't answered by success, and what is read of one.
---     Reason      the code of a failure, as the client is told it; or fields that aren't those of the command
+--     Reason      the code of the failure that is sent to the client; or fields that aren't those of the command
 --     Gives view result read      the result is what reading gives, unless memory ran out
 --     Answers old result new said      what is said is written, unless memory ran out
 --     Says is_said old result new read      what may be said of what is read is written, unless memory ran out

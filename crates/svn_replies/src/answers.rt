@@ -16,11 +16,7 @@ use svn_wire::Token;
 
 /// `check-path`: what is at a path.
 #[tactic(auto, unfolding(crate::specs::Commands::kind_answer, crate::specs::Answers::success))]
-pub(crate) fn answer_kind(
-    view: View<'_>,
-    fields: &[Token],
-    out: &mut Vec<u8>,
-) -> Result<(), Refused>
+pub fn answer_kind(view: View<'_>, fields: &[Token], out: &mut Vec<u8>) -> Result<(), Refused>
     ensures { Answers out.old.items result out.new.items (kind_answer view.entry.served.now.repo view.entry.session.now.at fields.now) }
 {
     let Some((path, rev, _more)) = path_and_rev(fields) else {
@@ -50,11 +46,7 @@ fn place_of(view: View<'_>, fields: &[Token]) -> Result<Place, Refused>
 
 /// `stat`: what is known of a node.
 #[tactic(auto, unfolding(crate::specs::Answers::success))]
-pub(crate) fn answer_stat(
-    view: View<'_>,
-    fields: &[Token],
-    out: &mut Vec<u8>,
-) -> Result<(), Refused>
+pub fn answer_stat(view: View<'_>, fields: &[Token], out: &mut Vec<u8>) -> Result<(), Refused>
     ensures { Says (IsStat view.entry.served.now) out.old.items result out.new.items (place_of view.entry.served.now.repo view.entry.session.now.at fields.now) }
 {
     let place = place_of(view, fields)?;
@@ -92,11 +84,7 @@ fn found_of(view: View<'_>, kind: Kind, fields: &[Token]) -> Result<Found, Refus
 
 /// `get-file`: checksum, properties and text.
 #[tactic(auto, unfolding(crate::specs::Answers::success))]
-pub(crate) fn answer_file(
-    view: View<'_>,
-    fields: &[Token],
-    out: &mut Vec<u8>,
-) -> Result<(), Refused>
+pub fn answer_file(view: View<'_>, fields: &[Token], out: &mut Vec<u8>) -> Result<(), Refused>
     ensures { Says (IsFile view.entry.served.now) out.old.items result out.new.items (found_of view.entry.served.now.repo view.entry.session.now.at File fields.now) }
 {
     let found = found_of(view, Kind::File, fields)?;
@@ -118,11 +106,7 @@ fn push_file(view: View<'_>, found: &Found, out: &mut Vec<u8>) -> Result<(), All
 }
 
 /// `get-dir`: properties and entries.
-pub(crate) fn answer_directory(
-    view: View<'_>,
-    fields: &[Token],
-    out: &mut Vec<u8>,
-) -> Result<(), Refused>
+pub fn answer_directory(view: View<'_>, fields: &[Token], out: &mut Vec<u8>) -> Result<(), Refused>
     ensures { Says (IsDirectory view.entry.served.now) out.old.items result out.new.items (found_of view.entry.served.now.repo view.entry.session.now.at Directory fields.now) }
 {
     let found = found_of(view, Kind::Directory, fields)?;
@@ -146,11 +130,7 @@ fn push_directory(view: View<'_>, found: &Found, out: &mut Vec<u8>) -> Result<()
 
 /// `get-iprops`: the properties of the directories above a node, from the root down.
 #[tactic(auto, unfolding(crate::specs::Commands::inherited_answer, crate::specs::Answers::success))]
-pub(crate) fn answer_inherited(
-    view: View<'_>,
-    fields: &[Token],
-    out: &mut Vec<u8>,
-) -> Result<(), Refused>
+pub fn answer_inherited(view: View<'_>, fields: &[Token], out: &mut Vec<u8>) -> Result<(), Refused>
     ensures { Answers out.old.items result out.new.items (inherited_answer view.entry.served.now.repo view.entry.session.now.at fields.now) }
 {
     let place = place_of(view, fields)?;

@@ -30,7 +30,7 @@ pub mod code {
     pub const NO_REPOSITORY: u64 = 210005;
 }
 
-/// Why a command fails, as the client is told.
+/// Why a command fails: what is sent to the client.
 #[derive(Debug, Drop)]
 pub struct Failure {
     /// Its code, as in `svn_error_codes.h`.
@@ -54,7 +54,7 @@ impl Failure {
 /// Why a command isn't answered by success.
 #[derive(Debug, Drop)]
 pub enum Refused {
-    /// The client is told why.
+    /// A failure, which is sent to the client.
     Failed(Failure),
     /// Its fields aren't those of the command.
     BadFields,

@@ -1,12 +1,12 @@
 //! The fields of commands.
 ghost use Rattle.std.specs.Prelude.{◌≡◌, option_map};
-ghost use Rattle.svn_replies.specs.CommandFields.{path_and_rev, node_fields, prop_fields, segment_fields};
+ghost use Rattle.svn_replies.specs.CommandFields.{path_and_rev, node_fields, prop_fields};
 
 use svn_wire::{Token, bool_field, number_field, optional_number, text_field};
 
 /// A path, a revision or none, and what is after them.
 #[tactic(auto, unfolding(crate::specs::CommandFields::path_and_rev))]
-pub(crate) fn path_and_rev(fields: &[Token]) -> Option<(&[u8], Option<u64>, &[Token])>
+pub fn path_and_rev(fields: &[Token]) -> Option<(&[u8], Option<u64>, &[Token])>
     ensures { option_map (λ r. (r.0.now, r.1, r.2.now)) result ≡ path_and_rev fields.now }
 {
     let (path, fields) = text_field(fields)?;
@@ -49,29 +49,4 @@ pub(crate) fn prop_fields(fields: &[Token]) -> Option<(u64, &[u8])>
     let (rev, fields) = number_field(fields)?;
     let (name, _more) = text_field(fields)?;
     Some((rev, name))
-}
-
-/// What `get-location-segments` is asked for.
-#[derive(Clone, Copy)]
-pub(crate) struct SegmentFields<'a> {
-    pub(crate) path: &'a [u8],
-    pub(crate) peg: Option<u64>,
-    pub(crate) start: Option<u64>,
-    pub(crate) end: Option<u64>,
-}
-
-/// The fields of `get-location-segments`.
-#[tactic(auto, unfolding(crate::specs::CommandFields::segment_fields))]
-pub(crate) fn segment_fields(fields: &[Token]) -> Option<SegmentFields<'_>>
-    ensures { option_map (λ r. (r.path.now, r.peg, r.start, r.end)) result ≡ segment_fields fields.now }
-{
-    let (path, peg, fields) = path_and_rev(fields)?;
-    let (start, fields) = optional_number(fields)?;
-    let (end, _more) = optional_number(fields)?;
-    Some(SegmentFields {
-        path,
-        peg,
-        start,
-        end,
-    })
 }

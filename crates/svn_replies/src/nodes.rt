@@ -1,4 +1,4 @@
-//! What a client is told of a node.
+//! What is written of a node.
 ghost use Rattle.std.specs.Prelude.{◌≡◌, ◌++◌, ◌∷◌, [], ℕ, List, Option, Some, option_map, IfOk, OnOk};
 ghost use Rattle.std.specs.Option.{option_copied};
 ghost use Rattle.md5.specs.Md5.{md5};
@@ -16,13 +16,13 @@ ghost use Rattle.svn_replies.specs.NodeBytes.{date_bytes, change_bytes, change_p
 use crate::session::{Place, View};
 use crate::writing::{
     push_bool, push_close, push_done, push_kind, push_known_pair, push_open, push_optional,
-    push_pair, push_pairs, push_path, push_rev, push_rev_pair, push_some,
+    push_pair, push_pairs, push_rev, push_rev_pair,
 };
 use std::alloc::{AllocError, Global};
 use svn_repo::NodeId;
 use svn_types::{Name, Props, RelPath, Rev, Text};
 use svn_wire::{push_number, push_text};
-use svn_wire_calls::Entered;
+use svn_wire_calls::{Entered, push_path, push_some};
 
 /// The date of a revision that has none: the client reads no entry without one.
 const NO_DATE: &[u8] = b"( 27:1970-01-01T00:00:00.000000Z ) ";

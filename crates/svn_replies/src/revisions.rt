@@ -15,7 +15,7 @@ use svn_wire::{Token, number_field, text_field};
 
 /// `get-latest-rev`.
 #[tactic(auto, unfolding(crate::specs::Answers::success))]
-pub(crate) fn answer_latest(view: View<'_>, out: &mut Vec<u8>) -> Result<(), Refused>
+pub fn answer_latest(view: View<'_>, out: &mut Vec<u8>) -> Result<(), Refused>
     ensures { Answers out.old.items result out.new.items (latest_answer view.entry.served.now.repo) }
 {
     push_success(out)?;
@@ -49,11 +49,7 @@ fn dated(revisions: &Revisions, last: Rev, date: &[u8]) -> Rev
 
 /// `get-dated-rev`: the last revision that isn't younger than a date.
 #[tactic(auto, unfolding(crate::specs::Commands::dated_answer, crate::specs::Answers::success))]
-pub(crate) fn answer_dated(
-    view: View<'_>,
-    fields: &[Token],
-    out: &mut Vec<u8>,
-) -> Result<(), Refused>
+pub fn answer_dated(view: View<'_>, fields: &[Token], out: &mut Vec<u8>) -> Result<(), Refused>
     ensures { Answers out.old.items result out.new.items (dated_answer view.entry.served.now.repo view.entry.served.now.revisions fields.now) }
 {
     let Some((date, _more)) = text_field(fields) else {
@@ -67,11 +63,7 @@ pub(crate) fn answer_dated(
 
 /// `rev-prop`: the value of a property of a revision.
 #[tactic(auto, unfolding(crate::specs::Commands::rev_prop_answer, crate::specs::Answers::success))]
-pub(crate) fn answer_rev_prop(
-    view: View<'_>,
-    fields: &[Token],
-    out: &mut Vec<u8>,
-) -> Result<(), Refused>
+pub fn answer_rev_prop(view: View<'_>, fields: &[Token], out: &mut Vec<u8>) -> Result<(), Refused>
     ensures { Answers out.old.items result out.new.items (rev_prop_answer view.entry.served.now.repo view.entry.served.now.revisions fields.now) }
 {
     let Some((rev, name)) = prop_fields(fields) else {
@@ -85,11 +77,7 @@ pub(crate) fn answer_rev_prop(
 
 /// `rev-proplist`: the properties of a revision.
 #[tactic(auto, unfolding(crate::specs::Commands::rev_props_answer, crate::specs::Answers::success))]
-pub(crate) fn answer_rev_props(
-    view: View<'_>,
-    fields: &[Token],
-    out: &mut Vec<u8>,
-) -> Result<(), Refused>
+pub fn answer_rev_props(view: View<'_>, fields: &[Token], out: &mut Vec<u8>) -> Result<(), Refused>
     ensures { Answers out.old.items result out.new.items (rev_props_answer view.entry.served.now.repo view.entry.served.now.revisions fields.now) }
 {
     let Some((rev, _more)) = number_field(fields) else {

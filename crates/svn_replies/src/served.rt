@@ -9,6 +9,7 @@ ghost use Rattle.svn_replies.specs.Values.{value_in, value_at};
 ghost use Rattle.svn_replies.specs.Nodes.{line_at, has_props};
 ghost use Rattle.svn_replies.specs.LastChanges.{IsChangeOrNone};
 
+use crate::changes::Changes;
 use std::alloc::{AllocError, Global};
 use std::marker::Model;
 use svn_drive::DriveOptions;
@@ -80,6 +81,8 @@ pub struct Served {
     pub index: DumpIndex,
     /// The properties of its revisions.
     pub revisions: Revisions,
+    /// What its revisions changed, path by path.
+    pub changes: Changes,
     /// Its UUID.
     pub uuid: Text,
     /// Where it is in URLs, after the host: a slash and a name for each directory, and nothing where it is the host's root.
@@ -98,8 +101,8 @@ fn copied(text: Option<&Text>) -> Result<Option<Text>, AllocError>
 }
 
 impl Served {
-    /// The revision that changed the node at a path last; None where nothing is there.
-    pub(crate) fn changed_rev(
+    // The revision that changed the node at a path last; None where nothing is there.
+    fn changed_rev(
         &self,
         alloc: Global,
         rev: Rev,
@@ -155,7 +158,7 @@ impl Served {
     }
 
     /// The line of the node at a path.
-    pub(crate) fn line_at(&self, rev: Rev, path: &RelPath) -> Option<u64>
+    pub fn line_at(&self, rev: Rev, path: &RelPath) -> Option<u64>
         ensures { result ≡ line_at self.now.repo rev path.now }
     {
         let node = self.repo.lookup(rev, path)?;

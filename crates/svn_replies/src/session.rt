@@ -23,9 +23,11 @@ pub struct Session {
 
 /// A path of a revision.
 #[derive(Debug, Drop)]
-pub(crate) struct Place {
-    pub(crate) rev: Rev,
-    pub(crate) path: RelPath,
+pub struct Place {
+    /// The revision.
+    pub rev: Rev,
+    /// The path.
+    pub path: RelPath,
 }
 
 /// What is served to a client.
@@ -148,7 +150,7 @@ fn shown(alloc: Global, path: &RelPath) -> Result<String, AllocError> {
 impl View<'_> {
     /// The path in the repository of a path of a command.
     #[tactic(auto, unfolding(crate::specs::Named::path_in))]
-    pub(crate) fn path(&self, bytes: &[u8]) -> Result<RelPath, Refused>
+    pub fn path(&self, bytes: &[u8]) -> Result<RelPath, Refused>
         ensures { Gives (λ p. p) result (path_in self.now.session.now.at bytes.now) }
     {
         let below = read_path(self.alloc, bytes)?;
@@ -160,7 +162,7 @@ impl View<'_> {
     }
 
     /// A revision that the repository has.
-    pub(crate) fn known(&self, rev: Rev) -> Result<Rev, Refused>
+    pub fn known(&self, rev: Rev) -> Result<Rev, Refused>
         ensures { Gives (λ r. r) result (known_rev self.now.served.now.repo rev) }
     {
         if rev <= self.served.repo.latest() {
@@ -184,7 +186,7 @@ impl View<'_> {
 
     /// The revision and the path that are named.
     #[tactic(auto, unfolding(crate::specs::Named::place_named))]
-    pub(crate) fn place(&self, path: &[u8], rev: Option<u64>) -> Result<Place, Refused>
+    pub fn place(&self, path: &[u8], rev: Option<u64>) -> Result<Place, Refused>
         ensures { Gives (λ place. (place.rev, place.path)) result (place_named self.now.served.now.repo self.now.session.now.at path.now rev) }
     {
         let rev = self.rev(rev)?;
@@ -193,7 +195,7 @@ impl View<'_> {
     }
 
     /// The node at a path.
-    pub(crate) fn node(&self, rev: Rev, path: &RelPath) -> Result<NodeId, Refused>
+    pub fn node(&self, rev: Rev, path: &RelPath) -> Result<NodeId, Refused>
         ensures { Gives (λ n. n) result (node_in self.now.served.now.repo rev path.now) }
     {
         match self.served.repo.lookup(rev, path) {

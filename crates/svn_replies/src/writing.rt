@@ -1,9 +1,8 @@
 //! Answers, and their parts.
-ghost use Rattle.std.specs.Prelude.{◌≡◌, ◌++◌, ◌∷◌, [], Some, codes, OnOk};
+ghost use Rattle.std.specs.Prelude.{◌≡◌, ◌++◌, [], codes, OnOk};
 ghost use Rattle.std.specs.List.{flat_map};
 ghost use Rattle.std.specs.Fmt.{decimal};
 ghost use Rattle.std.specs.Option.{option_copied};
-ghost use Rattle.svn_types.specs.PathTexts.{path_text};
 ghost use Rattle.svn_wire.specs.Writing.{number_bytes, text_bytes};
 ghost use Rattle.svn_wire_calls.specs.Calls.{optional};
 ghost use Rattle.svn_replies.specs.Answers.{success, failure, no_mechanism, bool_bytes, kind_bytes, pair_bytes, known_pair, whole_path};
@@ -11,8 +10,9 @@ ghost use Rattle.svn_replies.specs.Answers.{success, failure, no_mechanism, bool
 use crate::fault::Failure;
 use itoa::Buffer;
 use std::alloc::AllocError;
-use svn_types::{Kind, Name, Props, RelPath, Rev, Text};
+use svn_types::{Kind, Props, RelPath, Rev, Text};
 use svn_wire::{push_number, push_text, push_word};
+use svn_wire_calls::{push_below, push_some};
 
 /// The beginning of a list.
 pub fn push_open(out: &mut Vec<u8>) -> Result<(), AllocError>
@@ -69,13 +69,15 @@ pub fn push_failure(out: &mut Vec<u8>, told: &Failure) -> Result<(), AllocError>
     out.extend_from_slice(b"0: 0 ) ) ) ")
 }
 
-pub(crate) fn push_rev(out: &mut Vec<u8>, rev: Rev) -> Result<(), AllocError>
+/// The number of a revision.
+pub fn push_rev(out: &mut Vec<u8>, rev: Rev) -> Result<(), AllocError>
     ensures { OnOk result (out.new.items ≡ out.old.items ++ number_bytes rev) }
 {
     push_number(out, rev.0)
 }
 
-pub(crate) fn push_bool(out: &mut Vec<u8>, value: bool) -> Result<(), AllocError>
+/// `true` or `false`.
+pub fn push_bool(out: &mut Vec<u8>, value: bool) -> Result<(), AllocError>
     ensures { OnOk result (out.new.items ≡ out.old.items ++ bool_bytes value) }
 {
     if value {
@@ -86,7 +88,7 @@ pub(crate) fn push_bool(out: &mut Vec<u8>, value: bool) -> Result<(), AllocError
 }
 
 /// The kind of a node, or that none is there.
-pub(crate) fn push_kind(out: &mut Vec<u8>, kind: Option<Kind>) -> Result<(), AllocError>
+pub fn push_kind(out: &mut Vec<u8>, kind: Option<Kind>) -> Result<(), AllocError>
     ensures { OnOk result (out.new.items ≡ out.old.items ++ kind_bytes kind) }
 {
     match kind {
@@ -96,17 +98,8 @@ pub(crate) fn push_kind(out: &mut Vec<u8>, kind: Option<Kind>) -> Result<(), All
     }
 }
 
-/// A list of one string.
-pub(crate) fn push_some(out: &mut Vec<u8>, value: &[u8]) -> Result<(), AllocError>
-    ensures { OnOk result (out.new.items ≡ out.old.items ++ optional (Some value.now)) }
-{
-    push_open(out)?;
-    push_text(out, value)?;
-    push_close(out)
-}
-
 /// A list of one string or none.
-pub(crate) fn push_optional(out: &mut Vec<u8>, value: Option<&Text>) -> Result<(), AllocError>
+pub fn push_optional(out: &mut Vec<u8>, value: Option<&Text>) -> Result<(), AllocError>
     ensures { OnOk result (out.new.items ≡ out.old.items ++ optional (option_copied value.entry)) }
 {
     match value {
@@ -117,7 +110,7 @@ pub(crate) fn push_optional(out: &mut Vec<u8>, value: Option<&Text>) -> Result<(
 
 /// A name and a value.
 #[tactic(auto, unfolding(crate::specs::Answers::pair_bytes))]
-pub(crate) fn push_pair(out: &mut Vec<u8>, name: &[u8], value: &[u8]) -> Result<(), AllocError>
+pub fn push_pair(out: &mut Vec<u8>, name: &[u8], value: &[u8]) -> Result<(), AllocError>
     ensures { OnOk result (out.new.items ≡ out.old.items ++ pair_bytes name.now value.now) }
 {
     push_open(out)?;
@@ -158,36 +151,6 @@ pub(crate) fn push_pairs(out: &mut Vec<u8>, props: &Props) -> Result<(), AllocEr
     Ok(())
 }
 
-fn push_below(text: &mut Vec<u8>, names: &[Name]) -> Result<(), AllocError>
-    ensures { OnOk result (text.new.items ≡ text.old.items ++ flat_map (λ m. 47 ∷ m) names.now) }
-{
-    for name in names {
-        text.push(b'/')?;
-        text.extend_from_slice(name.as_str().as_bytes())?;
-    }
-    Ok(())
-}
-
-// The names of a path with a slash between them.
-fn push_names(text: &mut Vec<u8>, path: &RelPath) -> Result<(), AllocError>
-    ensures { OnOk result (text.new.items ≡ text.old.items ++ path_text path.now) }
-{
-    let Some((first, rest)) = path.components().split_first() else {
-        return Ok(());
-    };
-    text.extend_from_slice(first.as_str().as_bytes())?;
-    push_below(text, rest)
-}
-
-/// A path as a string, with a slash between names.
-pub(crate) fn push_path(out: &mut Vec<u8>, path: &RelPath) -> Result<(), AllocError>
-    ensures { OnOk result (out.new.items ≡ out.old.items ++ text_bytes (path_text path.now)) }
-{
-    let mut text = Vec::new(*out.allocator());
-    push_names(&mut text, path)?;
-    push_text(out, &text)
-}
-
 // A slash before each name of a path; of the root a slash.
 fn push_whole_names(text: &mut Vec<u8>, path: &RelPath) -> Result<(), AllocError>
     ensures { OnOk result (text.new.items ≡ text.old.items ++ whole_path path.now) }
@@ -199,7 +162,7 @@ fn push_whole_names(text: &mut Vec<u8>, path: &RelPath) -> Result<(), AllocError
 }
 
 /// A path as a string, with a slash before each name; that of the root is a slash.
-pub(crate) fn push_whole_path(out: &mut Vec<u8>, path: &RelPath) -> Result<(), AllocError>
+pub fn push_whole_path(out: &mut Vec<u8>, path: &RelPath) -> Result<(), AllocError>
     ensures { OnOk result (out.new.items ≡ out.old.items ++ text_bytes (whole_path path.now)) }
 {
     let mut text = Vec::new(*out.allocator());

@@ -4,7 +4,7 @@ use Rattle.svn_wire.specs.declared.token.Token.{Token}
 use Rattle.svn_served.specs.declared.commands.Answered.TheVariants as answered
 use Rattle.svn_served.specs.declared.connection.Phase.{Phase}
 use Rattle.svn_served.specs.declared.connection.Phase.TheVariants as phases
-use Rattle.svn_replies.specs.declared.commands.Replied.{Replied}
+use Rattle.svn_commands.specs.declared.commands.Replied.{Replied}
 use Rattle.svn_replies.specs.declared.fault.Refused.{Refused}
 use Rattle.svn_replies.specs.declared.fault.Refused.TheVariants as refused
 use Rattle.svn_replies.specs.declared.served.Served.{Served}

@@ -19,7 +19,7 @@ use Rattle.svn_replies.specs.Answers.{no_mechanism}
 use Rattle.svn_served.specs.AskedFields.{Asked, asked_by}
 use Rattle.svn_replies.specs.Named.{named_rev}
 use Rattle.svn_replies.specs.Refusals.{Gives}
-use Rattle.svn_replies.specs.Replies.{Replies}
+use Rattle.svn_commands.specs.Replies.{Replies}
 use Rattle.svn_served.specs.Reporting.{begun}
 use Rattle.svn_served.specs.Wanting.{wanted_of}
 

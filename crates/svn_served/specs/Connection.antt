@@ -10,8 +10,8 @@ use Rattle.svn_wire.specs.Fields.{◌>>=◌, command_of, list_field, number_fiel
 use Rattle.svn_wire.specs.Writing.{text_bytes}
 use Rattle.svn_served.specs.declared.connection.Phase.{Phase}
 use Rattle.svn_served.specs.declared.connection.Phase.TheVariants as phases
-use Rattle.svn_replies.specs.declared.commands.Replied.{Replied}
-use Rattle.svn_replies.specs.declared.commands.Replied.TheVariants as replied
+use Rattle.svn_commands.specs.declared.commands.Replied.{Replied}
+use Rattle.svn_commands.specs.declared.commands.Replied.TheVariants as replied
 use Rattle.svn_replies.specs.declared.fault.Refused.{Refused}
 use Rattle.svn_served.specs.declared.reporting.Reporting.{Reporting}
 use Rattle.svn_replies.specs.declared.served.Served.{Served}
@@ -21,7 +21,7 @@ use Rattle.svn_replies.specs.Answers.{success, failure, no_mechanism}
 use Rattle.svn_served.specs.AskedFields.{Asked, asked_by}
 use Rattle.svn_served.specs.Asking.{IsFree}
 use Rattle.svn_replies.specs.Refusals.{Reason, as_read, Gives, reasons, IsTold}
-use Rattle.svn_replies.specs.Replies.{Replies}
+use Rattle.svn_commands.specs.Replies.{Replies}
 use Rattle.svn_replies.specs.Sessions.{IsOpened}
 use Rattle.svn_served.specs.Reporting.{begun}
 use Rattle.svn_served.specs.Wanting.{driving_of, wanted_of}

@@ -5,7 +5,8 @@ ghost use Rattle.svn_served.specs.Asking.{is_malformed, Asks, AnswersBy, IsReply
 ghost use Rattle.svn_served.specs.Wanting.{driving_of};
 
 use crate::wanted::{Driving, Wanted, driving_of, read_wanted};
-use svn_replies::{Refused, Replied, View, push_no_mechanism, reply};
+use svn_commands::{Replied, reply};
+use svn_replies::{Refused, View, push_no_mechanism};
 use svn_wire::Token;
 
 /// What comes of a command that doesn't fail.
@@ -13,7 +14,7 @@ use svn_wire::Token;
 pub(crate) enum Answered {
     /// It is answered.
     Replied(Replied),
-    /// A report follows. Why it can't be served is told at its end.
+    /// A report follows. Why it can't be served is sent at its end.
     Wants(Result<Wanted, Refused>),
 }
 

@@ -15,7 +15,8 @@ use crate::reports::take_report;
 use crate::wanted::Wanted;
 use std::alloc::{AllocError, Global};
 use std::io::Write;
-use svn_replies::{Refused, Replied, Served, Session, View, push_done, push_failure};
+use svn_commands::Replied;
+use svn_replies::{Refused, Served, Session, View, push_done, push_failure};
 use svn_types::RelPath;
 use svn_wire::{Token, command, push_number, push_text, read_failure};
 

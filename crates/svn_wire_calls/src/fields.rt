@@ -37,8 +37,8 @@ pub(crate) fn push_baton(out: &mut Vec<u8>, token: Token) -> Result<(), AllocErr
     push_text(out, buffer.format(token.0).as_bytes())
 }
 
-// Names, and a slash before each.
-fn push_below(out: &mut Vec<u8>, names: &[Name]) -> Result<(), AllocError>
+/// Writes names with a slash before each at the end. After an error its first bytes may be there, as with each function here.
+pub fn push_below(out: &mut Vec<u8>, names: &[Name]) -> Result<(), AllocError>
     ensures { OnOk result (out.new.items ≡ out.old.items ++ flat_map (λ m. 47 ∷ m) names.now) }
 {
     for name in names {
@@ -59,8 +59,8 @@ fn push_names(out: &mut Vec<u8>, path: &RelPath) -> Result<(), AllocError>
     push_below(out, rest)
 }
 
-/// Writes a path.
-pub(crate) fn push_path(out: &mut Vec<u8>, path: &RelPath) -> Result<(), AllocError>
+/// Writes a path as a string, with a slash between names.
+pub fn push_path(out: &mut Vec<u8>, path: &RelPath) -> Result<(), AllocError>
     ensures { OnOk result (out.new.items ≡ out.old.items ++ path_bytes path.now) }
 {
     let mut text = Vec::new(*out.allocator());
@@ -79,7 +79,7 @@ pub(crate) fn push_revision(out: &mut Vec<u8>, rev: Rev) -> Result<(), AllocErro
 }
 
 /// Writes a list of one string.
-pub(crate) fn push_some(out: &mut Vec<u8>, value: &[u8]) -> Result<(), AllocError>
+pub fn push_some(out: &mut Vec<u8>, value: &[u8]) -> Result<(), AllocError>
     ensures { OnOk result (out.new.items ≡ out.old.items ++ optional (Some value.now)) }
 {
     out.extend_from_slice(b"( ")?;

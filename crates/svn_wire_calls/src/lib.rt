@@ -27,4 +27,5 @@ mod laws;
 pub use calls::push_call;
 pub use editor::WireEditor;
 pub use entered::{Entered, NothingTold, Teller};
+pub use fields::{push_below, push_path, push_some};
 pub use laws::{calls_are_written, images_are_one};

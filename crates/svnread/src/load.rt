@@ -70,11 +70,12 @@ fn root_of(alloc: Global, path: &str) -> Result<Text, Fault> {
 pub(crate) fn load<T: Files + AllocGlobal>(rt: &T, request: &Request<'_>) -> Result<Served, Fault> {
     let alloc = rt.alloc();
     let History { repo, index, uuid } = load_history(alloc, open(rt, request.dump)?)?;
-    let revisions = read_revisions(alloc, open(rt, request.dump)?, repo.latest())?;
+    let (revisions, changes) = read_revisions(alloc, open(rt, request.dump)?, repo.latest())?;
     Ok(Served {
         repo,
         index,
         revisions,
+        changes,
         uuid,
         root: root_of(alloc, request.root)?,
         options: DriveOptions {

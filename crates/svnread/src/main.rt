@@ -3,7 +3,9 @@
 
 mod command_line;
 mod fault;
+mod headers;
 mod load;
+mod notes;
 mod revisions;
 
 use crate::command_line::{Request, request_of};

@@ -1,10 +1,11 @@
-//! The properties of the revisions of a dump: what `svn_dump` passes over but for dates and authors.
+//! What a dump says of its revisions beside their trees: their properties, which `svn_dump` passes over but for dates and authors, and which paths they changed.
 
 use crate::fault::Fault;
+use crate::headers::{Headers, number_of};
+use crate::notes::Notes;
 use std::alloc::{AllocError, Global};
 use std::io::{BufRead, BufReader, Read};
-use std::str;
-use svn_replies::Revisions;
+use svn_replies::{Changes, Revisions};
 use svn_types::{PathFault, PropName, Props, Rev, Text, split_once};
 
 /// The most bytes of a revision's properties that are kept.
@@ -12,32 +13,6 @@ const MOST: u64 = 16777216;
 
 /// So many bytes are passed over at once.
 const PIECE: u64 = 65536;
-
-/// The headers of a record.
-#[derive(Clone, Copy)]
-struct Headers {
-    rev: Option<u64>,
-    props: u64,
-    content: u64,
-}
-
-// The number in a header of this name.
-fn number_after(line: &[u8], name: &[u8]) -> Option<u64> {
-    let text = str::from_utf8(line.strip_prefix(name)?).ok()?;
-    text.parse::<u64>().ok()
-}
-
-impl Headers {
-    fn note(&mut self, line: &[u8]) {
-        if let Some(number) = number_after(line, b"Revision-number: ") {
-            self.rev = Some(number);
-        } else if let Some(number) = number_after(line, b"Prop-content-length: ") {
-            self.props = number;
-        } else if let Some(number) = number_after(line, b"Content-length: ") {
-            self.content = number;
-        }
-    }
-}
 
 /// What a dump's records are read from.
 #[derive(Drop)]
@@ -64,18 +39,14 @@ impl<R: Read> Source<R> {
 
     // The headers of the next record.
     fn headers(&mut self) -> Result<Option<Headers>, Fault> {
-        let mut headers = Headers {
-            rev: None,
-            props: 0,
-            content: 0,
-        };
+        let mut headers = Headers::new();
         let mut has_begun = false;
         for _ in 0..u64::MAX {
             let Some(line) = self.line()? else {
                 return Ok(None);
             };
             if !line.is_empty() {
-                headers.note(&line);
+                headers.note(self.alloc, &line)?;
                 has_begun = true;
             } else if has_begun {
                 return Ok(Some(headers));
@@ -107,7 +78,7 @@ impl<R: Read> Source<R> {
 // The run of bytes that a line of this letter and a number announces, and what is after it.
 fn run<'a>(section: &'a [u8], letter: &[u8]) -> Option<(&'a [u8], &'a [u8])> {
     let (line, rest) = split_once(section, b'\n')?;
-    let len = number_after(line, letter)?;
+    let len = number_of(line.strip_prefix(letter)?)?;
     if rest.len() as u64 <= len {
         return None;
     }
@@ -138,35 +109,50 @@ fn props_of(alloc: Global, section: &[u8]) -> Result<Props, AllocError> {
     Ok(props)
 }
 
-/// The properties of the revisions up to the last one.
+impl<R: Read> Source<R> {
+    // The properties of a revision; the rest of its content is passed over.
+    fn revision_props(&mut self, headers: &Headers) -> Result<Props, Fault> {
+        let kept = headers.props.unwrap_or(0).min(headers.content).min(MOST);
+        let section = self.bytes(kept)?;
+        self.skip(headers.content.saturating_sub(kept))?;
+        Ok(props_of(self.alloc, &section)?)
+    }
+
+    // Notes the next record; whether there is one.
+    fn note_next(&mut self, notes: &mut Notes) -> Result<bool, Fault> {
+        let Some(headers) = self.headers()? else {
+            return Ok(false);
+        };
+        match headers.rev {
+            Some(rev) => {
+                let props = self.revision_props(&headers)?;
+                notes.begin(self.alloc, rev, props)?;
+            }
+            None => {
+                self.skip(headers.content)?;
+                notes.change(self.alloc, headers)?;
+            }
+        }
+        Ok(true)
+    }
+}
+
+/// What a dump says of the revisions up to the last one.
 pub(crate) fn read_revisions<R: Read + Drop>(
     alloc: Global,
     input: R,
     latest: Rev,
-) -> Result<Revisions, Fault> {
+) -> Result<(Revisions, Changes), Fault> {
     let reader = match BufReader::new(alloc, input) {
         Ok(reader) => reader,
         Err(error) => return Err(Fault::Unread(error)),
     };
     let mut source = Source { alloc, reader };
-    let mut all = Vec::new(alloc);
+    let mut notes = Notes::new(alloc, latest);
     for _ in 0..u64::MAX {
-        let Some(headers) = source.headers()? else {
+        if !source.note_next(&mut notes)? {
             break;
-        };
-        let Some(rev) = headers.rev else {
-            source.skip(headers.content)?;
-            continue;
-        };
-        let kept = headers.props.min(headers.content).min(MOST);
-        let section = source.bytes(kept)?;
-        source.skip(headers.content.saturating_sub(kept))?;
-        if rev <= latest.0 && all.len() as u64 <= rev {
-            for _ in all.len() as u64..rev {
-                all.push(Props::new(alloc))?;
-            }
-            all.push(props_of(alloc, &section)?)?;
         }
     }
-    Ok(Revisions::new(all))
+    Ok(notes.finish(alloc)?)
 }

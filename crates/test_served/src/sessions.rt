@@ -4,11 +4,12 @@ use anyhow::{Result, bail};
 use std::alloc::Global;
 use std::io;
 use std::io::Read;
+use std::mem::replace;
 use svn_drive::DriveOptions;
-use svn_dump::{Limits, Reader, Texts};
+use svn_dump::{Action, Limits, NodeRecord, PropSection, Reader, Record, Texts};
 use svn_history::Loader;
-use svn_replies::Revisions;
 pub(crate) use svn_replies::Served;
+use svn_replies::{Changes, PathChange, PathChanges, Revisions};
 use svn_repo::Repo;
 use svn_served::{ServeFault, serve};
 use svn_types::{PropName, Props, Text};
@@ -46,6 +47,75 @@ fn revisions(alloc: Global) -> Result<Revisions> {
     Ok(Revisions::new(all))
 }
 
+// Whether a record gives properties; all records of new nodes have a section of them.
+fn gives_props(node: &NodeRecord) -> bool {
+    match &node.props {
+        Some(PropSection::Whole(props)) => node.action == Action::Change || !props.is_empty(),
+        Some(PropSection::Delta(_)) => true,
+        None => false,
+    }
+}
+
+fn change_of(node: NodeRecord) -> PathChange {
+    let props = gives_props(&node);
+    let NodeRecord {
+        path,
+        kind,
+        action,
+        source,
+        text,
+        ..
+    } = node;
+    PathChange {
+        path,
+        action,
+        kind,
+        source,
+        text: text.is_some(),
+        props,
+    }
+}
+
+fn in_order(changes: Vec<PathChange>) -> Result<PathChanges> {
+    let mut changes = changes;
+    changes.sort_by(|one, other| one.path.cmp(&other.path))?;
+    Ok(PathChanges::new(changes))
+}
+
+// Adds what a record says to what the revisions before changed, and to what this one did.
+fn note(
+    alloc: Global,
+    record: Record,
+    revs: &mut Vec<PathChanges>,
+    last: &mut Vec<PathChange>,
+) -> Result<()> {
+    match record {
+        Record::Revision { rev } => {
+            if rev.0 > 0 {
+                revs.push(in_order(replace(last, Vec::new(alloc)))?)?;
+            }
+        }
+        Record::Node(node) => last.push(change_of(node))?,
+        Record::Other => {}
+    }
+    Ok(())
+}
+
+// What the revisions of a dump changed, as its records say.
+fn changes(alloc: Global, dump: &[u8]) -> Result<Changes> {
+    let mut reader = Reader::new(alloc, dump, Limits::default(), Texts::Whole)?;
+    let mut revs = Vec::new(alloc);
+    let mut last = Vec::new(alloc);
+    for _ in 0..u64::MAX {
+        match reader.next_record()? {
+            Some(record) => note(alloc, record, &mut revs, &mut last)?,
+            None => break,
+        }
+    }
+    revs.push(in_order(last)?)?;
+    Ok(Changes::new(revs))
+}
+
 /// The history of a dump, whose repository is `repo` at its host.
 pub(crate) fn load(alloc: Global, dump: &[u8]) -> Result<Served> {
     let reader = Reader::new(alloc, dump, Limits::default(), Texts::Whole)?.with_index();
@@ -62,6 +132,7 @@ pub(crate) fn load(alloc: Global, dump: &[u8]) -> Result<Served> {
         repo,
         index,
         revisions: revisions(alloc)?,
+        changes: changes(alloc, dump)?,
         uuid,
         root: Text::from_str(alloc, "/repo")?,
         options: DriveOptions::default(),

@@ -1,0 +1,11 @@
+use Rattle.std.proofs.Common.{◌≡◌, ◌++◌, drop}
+use Rattle.std.specs.List.{flat_map}
+use Rattle.svn_commands.specs.Asking.{range_as}
+use Rattle.svn_commands.specs.Locations.{part_bytes}
+use Rattle.svn_commands.proofs.locations.push_parts.Given as goal
+
+-- what is written and the segments that are left make all
+abbrev pub invariant-loop-segment : goal.invariant-loop-segment
+invariant-loop-segment l =
+    l.out.items ++ flat_map (part_bytes (range_as l.range)) (drop l.segment-index l.segments)
+    ≡ l.initial.out.items ++ flat_map (part_bytes (range_as l.range)) l.segments
