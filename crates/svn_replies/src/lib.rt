@@ -1,7 +1,7 @@
 //! What a server for Subversion's clients (ra_svn, read only) serves, and what it answers to commands about one node or one revision.
 //!
 //! [`Served`] is what is served: a repository that was loaded from a dump, what the dump says of copies, and the properties and the changes of its revisions.
-//! It never changes. A client is somewhere in it ([`Session`]); with that it is a [`View`], of which each `answer_..` answers one command by its fields.
+//! It never changes. A client is somewhere in it ([`Session`]); with that it is a [`View`], of which one function answers each command by its fields.
 //!
 //! ```
 //! let session = Session::open(alloc, &served, url)?;
