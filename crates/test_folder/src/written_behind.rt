@@ -1,13 +1,13 @@
 //! Files that are written behind, on disk.
 
 use crate::several::{copy, make_in_pieces};
-use crate::{behind, do_all, take_all, tried_again};
+use crate::{behind, do_all, take_all, tried_again, words_at};
 use anyhow::{Result, bail};
 use std::alloc::Global;
 use std::fs::File;
 use std::rt::Files;
 use std::thread::Threads;
-use svn_folder::{Entry, FileMaker, Folder, FolderFault, Locks, Step, SyncedFolder};
+use svn_folder::{FileMaker, Folder, FolderFault, Locks, Step, SyncedFolder};
 use svn_types::RelPath;
 
 // With their copies more than wait at once.
@@ -35,12 +35,13 @@ fn count<F: Folder>(alloc: Global, folder: &F) -> Result<usize> {
 
 // Fails where a file isn't as it was made.
 fn compare_text<F: Folder>(alloc: Global, folder: &F, word: &str, number: u64) -> Result<()> {
-    let path = RelPath::parse(alloc, &format!(in alloc; "{word}{number}")?)?;
+    let path = format!(in alloc; "{word}{number}")?;
     let text = format!(in alloc; "t{number}")?;
-    match folder.look(alloc, &path)? {
-        Some(Entry::File(bytes, _)) if bytes.as_slice() == text.as_bytes() => Ok(()),
-        _ => bail!("{path} isn't {text}"),
+    let found = words_at(alloc, folder, &path)?;
+    if found != text {
+        bail!("{path}: {found}")
     }
+    Ok(())
 }
 
 // Fails where one of them isn't.
