@@ -47,7 +47,7 @@ fn begin_syncs<R: Threads>(rt: &R, files: Vec<Opened>) -> Share<SyncFault> {
     }
 }
 
-// The same for files that are to be made.
+// The same for new files.
 fn begin_making<R: Threads>(rt: &R, system: HostRuntime, files: Vec<NewFile>) -> Share<Unmade> {
     match thread::spawn(rt, move || make_share(system, files)) {
         Ok(thread) => Share::Running(thread),
@@ -89,7 +89,7 @@ pub(crate) fn sync_at_once<R: Threads>(
     Ok(end_all(rt, begun))
 }
 
-/// The same for files that are to be made.
+/// The same for new files.
 pub(crate) fn make_at_once<R: Threads>(
     rt: &R,
     system: HostRuntime,

@@ -21,7 +21,7 @@ const WRITE: u32 = 0o222;
 
 const EXECUTE: u32 = 0o111;
 
-/// A file that is to be made, with all its bytes.
+/// A new file, with all its bytes.
 #[derive(Drop)]
 pub struct NewFile {
     /// Its path in the folder.

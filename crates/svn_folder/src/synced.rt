@@ -38,7 +38,7 @@ impl<F: Folder> SyncedFolder<F> {
         }
     }
 
-    /// The same where nothing is to be brought to the disk: it keeps no path, and `is_synced` is never true.
+    /// The same for a caller who brings nothing to the disk: it keeps no path, and `is_synced` is never true.
     pub fn unmarked(alloc: Global, folder: F) -> SyncedFolder<F>
         requires { IsSyncedPast (F.past folder) }
         ensures { result.folder ≡ folder }

@@ -7,7 +7,7 @@ use std::rt::Files;
 use std::thread::Threads;
 use svn_folder::{FileMaker, Locks, SyncedFolder, WriteBehind};
 
-/// The folder at a path of the system, whose files are written behind. Where nothing is to be brought to the disk, it keeps nothing of what isn't there yet.
+/// The folder at a path of the system, whose new files are written later, many at once. Without syncs it keeps nothing of what isn't on the disk yet.
 pub(crate) fn folder_to_write<
     'a,
     T: Files<File = File> + Threads + Locks + FileMaker + AllocGlobal,

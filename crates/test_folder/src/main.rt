@@ -1,4 +1,4 @@
-//! Folders: each step and each refusal in memory and on disk, also with files written behind, files in pieces, copies and several syncs, a folder that stops
+//! Folders: each step and each refusal in memory and on disk, also with files written later, files in pieces, copies and several syncs, a folder that stops
 //! after each number of steps, what a crash may leave, and whether all is on the disk.
 #![tactic(auto)]
 
@@ -167,7 +167,7 @@ fn tried<R: Files<File = File> + Threads + AllocGlobal>(rt: &R) -> Result<DiskFo
     tried_again(rt)
 }
 
-// The same, with files that are written behind.
+// The same, with files that are written later.
 fn behind<R: Files<File = File> + Threads + Locks + FileMaker + AllocGlobal>(
     rt: &R,
 ) -> Result<WriteBehind<'_, R>> {

@@ -1,4 +1,4 @@
-//! Files that are written behind, on disk.
+//! Files that are written later, on disk (`WriteBehind`).
 
 use crate::several::{copy, make_in_pieces};
 use crate::{behind, do_all, take_all, tried_again, words_at};
@@ -92,7 +92,7 @@ fn lose<R: Files<File = File> + Threads + Locks + FileMaker + Print + AllocGloba
     Ok(())
 }
 
-/// All steps, and all files in pieces, with files written behind; then many files.
+/// All steps, and all files in pieces, with files written later; then many files.
 pub(crate) fn try_behind<R: Files<File = File> + Threads + Locks + FileMaker + Print + AllocGlobal>(
     rt: &R,
 ) -> Result<()> {
