@@ -152,7 +152,7 @@ pub enum EditFault {
     /// The receiver in another thread refused an earlier call, of this number, counted from 1: the sender must stop.
     #[error("call {0} was refused")]
     Late(u64),
-    /// An editor of one's own ends the drive for a reason that it keeps itself, as a file that can't be written. No editor of this library has it.
+    /// The editor ends the drive for a reason that it keeps itself, as a writer that takes no more bytes. No editor that changes a copy returns it.
     #[error("the editor stopped")]
     Stopped,
 }
