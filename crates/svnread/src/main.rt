@@ -18,8 +18,10 @@ use std::rt::Files;
 use std::{env, io};
 use svn_served::{ServeFault, serve};
 
-/// The status of what was refused, or failed.
-const REFUSED: u8 = 1;
+/// The status where a client was served no further.
+const FAILED: u8 = 1;
+/// The status of words and dumps that are refused: nothing was served.
+const REFUSED: u8 = 2;
 
 // The words of the command line; the first is the program's name.
 fn words(rt: &(impl Env + AllocGlobal)) -> Result<Vec<String>, Fault> {
@@ -36,7 +38,10 @@ fn words(rt: &(impl Env + AllocGlobal)) -> Result<Vec<String>, Fault> {
 // Where standard error can't be written either, the status alone tells.
 fn refuse<T: Eprint>(rt: &T, name: &str, fault: &Fault) -> ExitCode {
     let _ = eprintln!(rt; "svnread: {name}: {fault}");
-    ExitCode::from(REFUSED)
+    ExitCode::from(match fault {
+        Fault::Served(_) => FAILED,
+        _ => REFUSED,
+    })
 }
 
 // Serves one client, and flushes what was written to it.
