@@ -1,6 +1,5 @@
 //! Folders: each step and each refusal in memory and on disk, also with files written later, files in pieces, copies and several syncs, a folder that stops
 //! after each number of steps, what a crash may leave, and whether all is on the disk.
-#![tactic(auto)]
 
 mod several;
 mod tables;
@@ -330,13 +329,16 @@ fn try_stops_between<R: Print + AllocGlobal>(rt: &R) -> Result<()> {
     Ok(())
 }
 
-fn main(rt: HostRuntime) -> Result<()> {
-    try_both(&rt)?;
-    try_behind(&rt)?;
-    try_stops(&rt)?;
-    try_crashes(&rt)?;
-    try_syncs(&rt)?;
-    try_stops_between(&rt)?;
-    make_many(&rt)?;
-    try_locks(&rt)
+/// Each of these.
+pub(crate) fn try_folders<
+    R: Files<File = File> + Threads + Locks + FileMaker + Print + AllocGlobal,
+>(rt: &R) -> Result<()> {
+    try_both(rt)?;
+    try_behind(rt)?;
+    try_stops(rt)?;
+    try_crashes(rt)?;
+    try_syncs(rt)?;
+    try_stops_between(rt)?;
+    make_many(rt)?;
+    try_locks(rt)
 }
