@@ -1,16 +1,15 @@
 //! Sessions of Subversion's client 1.14.2, which were recorded at `svnserve`, as the client's side of connections that are served here: what is written to the
 //! client is printed, byte by byte. Cut off after each byte, a session is served as far as it came: what is written is a front of that.
 //!
-//! `data/history.dump` is what is served, `data/NAME.client` what the client sent.
-#![tactic(auto)]
+//! `history.dump` in `data/sessions` is what is served, `NAME.client` what the client sent.
 
 mod hostile;
-mod sessions;
+mod served;
 mod shown;
 
 use anyhow::{Result, bail};
 use hostile::{deep, not_text, rows};
-use sessions::{Served, answers_to, load};
+use served::{Served, answers_to, load};
 use shown::shown;
 use std::alloc::Global;
 use std::fs;
@@ -81,7 +80,7 @@ fn print_session<R: AllocGlobal + Files + Print>(
     served: &Served,
     name: &str,
 ) -> Result<()> {
-    let file = format!(in rt.alloc(); "{name}.client")?;
+    let file = format!(in rt.alloc(); "sessions/{name}.client")?;
     let client = fs::read(rt, file.as_str())?;
     print_answer(rt, served, name, &client)?;
     check_cuts(rt.alloc(), served, name, &client)
@@ -107,9 +106,10 @@ fn print_hostile<R: AllocGlobal + Print>(rt: &R, served: &Served) -> Result<()> 
     )
 }
 
-fn main(rt: HostRuntime) -> Result<()> {
-    let dump = fs::read(&rt, "history.dump")?;
+/// Prints what is written in the recorded sessions, and in those that no client should send.
+pub(crate) fn print<R: AllocGlobal + Files + Print>(rt: &R) -> Result<()> {
+    let dump = fs::read(rt, "sessions/history.dump")?;
     let served = load(rt.alloc(), &dump)?;
-    print_sessions(&rt, &served)?;
-    print_hostile(&rt, &served)
+    print_sessions(rt, &served)?;
+    print_hostile(rt, &served)
 }
