@@ -1,5 +1,5 @@
-//! Tests of names, paths, properties and texts; of the map from names; and of commits and transactions: what is there after them, which are refused,
-//! and how long and deep things may be.
+//! Tests of what is below the working copies: of names, paths, properties and texts; of the map from names; of pools and of the map from rising numbers
+//! (`pools`); and of commits and transactions: what is there after them, which are refused, and how long and deep things may be.
 #![tactic(auto)]
 
 #[cfg(test)]
@@ -20,6 +20,8 @@ mod names;
 mod parts;
 #[cfg(test)]
 mod paths;
+#[cfg(test)]
+mod pools;
 #[cfg(test)]
 mod properties;
 #[cfg(test)]

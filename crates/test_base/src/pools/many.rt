@@ -1,7 +1,7 @@
 // More blocks than the first arena of a tree is for, with strings beside their blocks and in them.
-use crate::call::Answer::{Counted, Done, Place, Serial, Text};
-use crate::call::Call::{Clear, Counts, Create, Get, Push};
-use crate::call::{Answer, Call, run};
+use crate::pools::call::Answer::{Counted, Done, Place, Serial, Text};
+use crate::pools::call::Call::{Clear, Counts, Create, Get, Push};
+use crate::pools::call::{Answer, Call, run};
 use linked_list_allocator::LocalHeap;
 use std::alloc::{AllocError, Allocator, Global};
 use std::process::Abort;

@@ -1,7 +1,9 @@
 // The worked rows.
-use crate::call::Answer::{Counted, Done, Fault, Nothing, Number, Place, Read, Serial, Text};
-use crate::call::Call::{Clear, Count, Counts, Create, Destroy, Get, Push, Root, Strings};
-use crate::call::{Answer, Call};
+use crate::pools::call::Answer::{
+    Counted, Done, Fault, Nothing, Number, Place, Read, Serial, Text,
+};
+use crate::pools::call::Call::{Clear, Count, Counts, Create, Destroy, Get, Push, Root, Strings};
+use crate::pools::call::{Answer, Call};
 use svn_pool::PoolFault::{Full, Gone, IsRoot, Memory, TooLong};
 
 // A chain of three pools with a string each. The uppermost is cleared, and gets a child that takes a spare block.

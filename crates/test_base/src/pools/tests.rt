@@ -1,6 +1,6 @@
 // The rows with ample memory.
-use crate::call::{Answer, Call, run};
-use crate::rows::{
+use crate::pools::call::{Answer, Call, run};
+use crate::pools::rows::{
     BRANCH, HALVES, HALVES_AND_EMPTY, LAST_SERIAL, LENGTHS, LONG_AND_SHORT, ONE_BEHIND_THE_OTHER,
     REFUSALS,
 };
