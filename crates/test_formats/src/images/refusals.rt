@@ -1,5 +1,5 @@
 //! What isn't written.
-use crate::written::written;
+use crate::images::written::written;
 use sqlite_value::value::ValueRef;
 use std::alloc::Global;
 use std::process::Abort;

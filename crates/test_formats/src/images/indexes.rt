@@ -1,6 +1,6 @@
 //! Indexes. A record of a text of L bytes and a small number takes L + 5 bytes from 58 on; up to 1002 of them are in its page.
-use crate::index_reader::read_index;
-use crate::written::{PAGE, records, written};
+use crate::images::index_reader::read_index;
+use crate::images::written::{PAGE, records, written};
 use std::alloc::Global;
 use std::process::Abort;
 use std::test::Fail;

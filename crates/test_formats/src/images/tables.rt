@@ -1,5 +1,5 @@
 //! Tables. A row of one text of L bytes takes L + 2 bytes up to 57, L + 3 up to 8185 and L + 4 beyond; up to 4061 of them are in its page.
-use crate::written::{pages, rows};
+use crate::images::written::{pages, rows};
 use std::alloc::Global;
 use std::process::Abort;
 use std::test::Fail;

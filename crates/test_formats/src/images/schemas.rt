@@ -1,5 +1,5 @@
 //! The table at page 1.
-use crate::written::{pages, text};
+use crate::images::written::{pages, text};
 use std::alloc::Global;
 use std::process::Abort;
 use std::test::Fail;

@@ -1,7 +1,7 @@
 //! Reads the records of an index, in their order, from the bytes of a file.
 ghost use Rattle.std.specs.Prelude.{◌≡◌, length};
 
-use crate::written::PAGE;
+use crate::images::written::PAGE;
 use sqlite_format::bytes::get_u32;
 use sqlite_format::{Node, Tree, cell};
 use std::alloc::Global;
