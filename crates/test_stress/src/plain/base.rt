@@ -1,9 +1,9 @@
 //! Working copies, as the model has them: a flat map from path to what is there.
 
-use crate::fault::{Fault, Result};
-use crate::history::{History, Node, Values};
-use crate::plain_path::{PlainPath, ROOT};
-use crate::words::Word;
+use crate::plain::fault::{Fault, Result};
+use crate::plain::history::{History, Node, Values};
+use crate::plain::plain_path::{PlainPath, ROOT};
+use crate::plain::words::Word;
 use std::alloc::Global;
 use std::collections::BTreeMap;
 use svn_model::WcFault;
@@ -11,7 +11,7 @@ use svn_types::Kind;
 
 /// What is at a path of a copy.
 #[derive(Clone, Copy, PartialEq, Eq)]
-pub enum Base {
+pub(crate) enum Base {
     File {
         rev: u64,
         repos: PlainPath,
@@ -28,10 +28,10 @@ pub enum Base {
 }
 
 /// What a copy has at each path.
-pub type BaseTree = BTreeMap<PlainPath, Base>;
+pub(crate) type BaseTree = BTreeMap<PlainPath, Base>;
 
 /// What a node is in a copy that has it at a revision and a repository path, complete.
-pub fn base_of(node: &Node, rev: u64, repos: PlainPath) -> Base {
+pub(crate) fn base_of(node: &Node, rev: u64, repos: PlainPath) -> Base {
     match node.kind {
         Kind::File => Base::File {
             rev,
@@ -49,7 +49,7 @@ pub fn base_of(node: &Node, rev: u64, repos: PlainPath) -> Base {
 }
 
 /// Everything at a path and below goes.
-pub fn remove_within(tree: &mut BaseTree, path: PlainPath) {
+pub(crate) fn remove_within(tree: &mut BaseTree, path: PlainPath) {
     tree.retain(|place, _base| !place.is_within(&path));
 }
 
@@ -84,7 +84,7 @@ fn put_tree(
 }
 
 /// Why a copy can't be made of what is at a path of a revision.
-pub fn checkout_fault(history: &History, rev: u64, path: PlainPath) -> Option<WcFault> {
+pub(crate) fn checkout_fault(history: &History, rev: u64, path: PlainPath) -> Option<WcFault> {
     if history.tree(rev).is_none() {
         return Some(WcFault::NoSuchRevision);
     }
@@ -96,7 +96,7 @@ pub fn checkout_fault(history: &History, rev: u64, path: PlainPath) -> Option<Wc
 }
 
 /// The copy of what is at a path of a revision.
-pub fn checked_out(
+pub(crate) fn checked_out(
     alloc: Global,
     history: &History,
     rev: u64,
@@ -109,7 +109,7 @@ pub fn checked_out(
 
 /// The repository path that a path has where it isn't switched: that of the directory above with the name after it. None where
 /// no directory is above.
-pub fn own_repos(tree: &BaseTree, path: PlainPath) -> Option<PlainPath> {
+pub(crate) fn own_repos(tree: &BaseTree, path: PlainPath) -> Option<PlainPath> {
     let parent = path.parent()?;
     match tree.get(&parent)? {
         Base::Dir { repos, .. } => repos.join(path.last()?),
@@ -118,7 +118,7 @@ pub fn own_repos(tree: &BaseTree, path: PlainPath) -> Option<PlainPath> {
 }
 
 /// Why nothing can be put at a path: with `repos` what is at another repository path.
-pub fn placing_fault(
+pub(crate) fn placing_fault(
     tree: &BaseTree,
     history: &History,
     path: PlainPath,
@@ -141,7 +141,7 @@ pub fn placing_fault(
 }
 
 /// Puts what a revision has at the path's own repository path, or at another, in the place of what is at the path.
-pub fn put_at(
+pub(crate) fn put_at(
     tree: &mut BaseTree,
     history: &History,
     path: PlainPath,
@@ -154,7 +154,7 @@ pub fn put_at(
 }
 
 /// Why a path can't be forgotten.
-pub fn forgetting_fault(tree: &BaseTree, path: PlainPath) -> Option<WcFault> {
+pub(crate) fn forgetting_fault(tree: &BaseTree, path: PlainPath) -> Option<WcFault> {
     if path.is_root() {
         return Some(WcFault::IsRoot);
     }
@@ -165,7 +165,7 @@ pub fn forgetting_fault(tree: &BaseTree, path: PlainPath) -> Option<WcFault> {
 }
 
 /// What is at the path counts as not present.
-pub fn forget(tree: &mut BaseTree, path: PlainPath) -> Result<()> {
+pub(crate) fn forget(tree: &mut BaseTree, path: PlainPath) -> Result<()> {
     remove_within(tree, path);
     tree.insert(path, Base::NotPresent)?;
     Ok(())

@@ -1,8 +1,8 @@
 //! When a copy is true of a repository, each node asked by itself.
 
-use crate::base::{Base, BaseTree};
-use crate::history::History;
-use crate::plain_path::PlainPath;
+use crate::plain::base::{Base, BaseTree};
+use crate::plain::history::History;
+use crate::plain::plain_path::PlainPath;
 use svn_types::Kind;
 
 // Whether each name of a directory in the repository has an entry in the copy.
@@ -59,7 +59,7 @@ fn is_true_at(history: &History, tree: &BaseTree, path: PlainPath, base: &Base) 
 }
 
 /// The first path, in path order, at which the copy isn't true.
-pub fn first_untrue(history: &History, tree: &BaseTree) -> Option<PlainPath> {
+pub(crate) fn first_untrue(history: &History, tree: &BaseTree) -> Option<PlainPath> {
     for (path, base) in tree {
         if !is_true_at(history, tree, *path, base) {
             return Some(*path);

@@ -1,21 +1,21 @@
 //! Where each path of a copy leads in the target, and what the copy must have then.
 
-use crate::base::{Base, BaseTree, base_of};
-use crate::fault::Result;
-use crate::history::{History, Node};
-use crate::plain_path::{PlainPath, ROOT};
-use crate::report::Report;
+use crate::plain::base::{Base, BaseTree, base_of};
+use crate::plain::fault::Result;
+use crate::plain::history::{History, Node};
+use crate::plain::plain_path::{PlainPath, ROOT};
+use crate::plain::report::Report;
 use std::alloc::Global;
 use std::collections::{BTreeMap, BTreeSet};
 use svn_types::Kind;
 
 /// What is asked for: the target, and the path to which the whole copy is switched.
 #[derive(Clone, Copy)]
-pub struct Request<'a> {
-    pub history: &'a History,
-    pub report: &'a Report,
-    pub target: u64,
-    pub to: Option<PlainPath>,
+pub(crate) struct Request<'a> {
+    pub(crate) history: &'a History,
+    pub(crate) report: &'a Report,
+    pub(crate) target: u64,
+    pub(crate) to: Option<PlainPath>,
 }
 
 // Whether a path goes on as what it is, and the place that it has in the target.
@@ -27,21 +27,21 @@ struct Way {
 
 /// What is known of one path.
 #[derive(Clone, Copy)]
-pub struct Facts {
-    pub path: PlainPath,
-    pub base: u64,
-    pub starts_empty: bool,
-    pub has_entry_below: bool,
-    pub source: Option<Node>,
-    pub is_kept: bool,
-    pub is_parent_kept: bool,
-    pub leads_to: Option<PlainPath>,
-    pub target: Option<Node>,
+pub(crate) struct Facts {
+    pub(crate) path: PlainPath,
+    pub(crate) base: u64,
+    pub(crate) starts_empty: bool,
+    pub(crate) has_entry_below: bool,
+    pub(crate) source: Option<Node>,
+    pub(crate) is_kept: bool,
+    pub(crate) is_parent_kept: bool,
+    pub(crate) leads_to: Option<PlainPath>,
+    pub(crate) target: Option<Node>,
 }
 
 /// Why no run leads to the target. The first that holds is returned.
 #[derive(Clone, Copy, Debug, PartialEq, Eq)]
-pub enum TargetFault {
+pub(crate) enum TargetFault {
     /// There is no such revision.
     NoSuchRevision,
     /// Nothing is in the target where the copy's root would be.
@@ -138,7 +138,7 @@ impl Request<'_> {
     }
 
     /// What is known of each path that the copy has, or that the target gives it.
-    pub fn all_facts(&self, alloc: Global, copy: &BaseTree) -> Result<Vec<Facts>> {
+    pub(crate) fn all_facts(&self, alloc: Global, copy: &BaseTree) -> Result<Vec<Facts>> {
         let mut paths = BTreeSet::new(alloc);
         for path in copy.keys() {
             paths.insert(*path)?;
@@ -154,7 +154,7 @@ impl Request<'_> {
     }
 
     /// Why no run leads to the target.
-    pub fn fault(&self) -> Option<TargetFault> {
+    pub(crate) fn fault(&self) -> Option<TargetFault> {
         if self.history.tree(self.target).is_none() {
             return Some(TargetFault::NoSuchRevision);
         }
@@ -171,7 +171,7 @@ impl Request<'_> {
 
 impl Facts {
     /// Whether the path goes on as what it is, and something of it changes.
-    pub fn is_touched(&self) -> bool {
+    pub(crate) fn is_touched(&self) -> bool {
         let (Some(source), Some(target)) = (self.source, self.target) else {
             return false;
         };
@@ -183,18 +183,22 @@ impl Facts {
     }
 
     /// Whether something comes that wasn't there.
-    pub fn is_new(&self) -> bool {
+    pub(crate) fn is_new(&self) -> bool {
         !self.is_kept && self.target.is_some()
     }
 
     /// Whether something goes by itself.
-    pub fn is_gone(&self) -> bool {
+    pub(crate) fn is_gone(&self) -> bool {
         self.source.is_some() && !self.is_kept && self.is_parent_kept
     }
 }
 
 /// What the copy has at the end, of the facts alone.
-pub fn result(alloc: Global, all: &[Facts], target: u64) -> Result<BTreeMap<PlainPath, Base>> {
+pub(crate) fn result(
+    alloc: Global,
+    all: &[Facts],
+    target: u64,
+) -> Result<BTreeMap<PlainPath, Base>> {
     let mut tree = BTreeMap::new(alloc);
     for facts in all {
         if let (Some(node), Some(repos)) = (&facts.target, facts.leads_to) {

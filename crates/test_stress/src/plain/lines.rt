@@ -1,9 +1,9 @@
 //! The printed lines of a drive.
 
-use crate::acts::{Act, Deed};
-use crate::fault::Result;
-use crate::plain_path::PlainPath;
-use crate::words::{PROP_NAMES, Word};
+use crate::plain::acts::{Act, Deed};
+use crate::plain::fault::Result;
+use crate::plain::plain_path::PlainPath;
+use crate::plain::words::{PROP_NAMES, Word};
 use md5::{Digest, Md5};
 use std::alloc::Global;
 use std::collections::BTreeMap;
@@ -30,13 +30,13 @@ impl fmt::Display for Checksum {
 
 /// The numbers of what is open, by path.
 #[derive(Drop)]
-pub struct Tokens {
+pub(crate) struct Tokens {
     by_path: BTreeMap<PlainPath, u64>,
     next: u64,
 }
 
 impl Tokens {
-    pub fn new(alloc: Global) -> Tokens {
+    pub(crate) fn new(alloc: Global) -> Tokens {
         Tokens {
             by_path: BTreeMap::new(alloc),
             next: 0,
@@ -153,7 +153,7 @@ fn parts(act: &Act, parent: u64, token: u64) -> [Part; 4] {
 }
 
 /// The line of a call; what is opened or added gets the next number.
-pub fn line(alloc: Global, tokens: &mut Tokens, act: &Act) -> Result<String> {
+pub(crate) fn line(alloc: Global, tokens: &mut Tokens, act: &Act) -> Result<String> {
     let parent = tokens.above(act.path);
     let token = tokens.of(act)?;
     let verb = verb(act);

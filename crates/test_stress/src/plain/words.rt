@@ -2,7 +2,7 @@
 
 /// Names in byte order, each with its word in a script. Some begin with others, and go on with a byte that comes
 /// before the slash.
-pub const NAMES: [(&str, &str); 10] = [
+pub(crate) const NAMES: [(&str, &str); 10] = [
     ("%", "%25"),
     ("a", "a"),
     ("a ", "a%20"),
@@ -28,26 +28,26 @@ const TEXTS: [(&str, &str); 5] = [
 ];
 
 /// How many texts there are.
-pub const TEXT_COUNT: u64 = 5;
+pub(crate) const TEXT_COUNT: u64 = 5;
 
 /// Names of properties, in byte order. They are printed as they are.
-pub const PROP_NAMES: [&str; 3] = ["p", "q:x", "svn:eol-style"];
+pub(crate) const PROP_NAMES: [&str; 3] = ["p", "q:x", "svn:eol-style"];
 
 /// A text or a value, by its place in the table.
 #[derive(Clone, Copy, PartialEq, Eq)]
-pub struct Word(u8);
+pub(crate) struct Word(u8);
 
 /// No bytes: also what a directory has as its text.
-pub const NO_TEXT: Word = Word(0);
+pub(crate) const NO_TEXT: Word = Word(0);
 
 impl Word {
     /// The text of a place in the table, which begins again after its last.
-    pub fn nth(place: u64) -> Word {
+    pub(crate) fn nth(place: u64) -> Word {
         Word((place % TEXT_COUNT) as u8)
     }
 
     /// Its bytes.
-    pub fn raw(self) -> &'static str {
+    pub(crate) fn raw(self) -> &'static str {
         match TEXTS.get(usize::from(self.0)) {
             Some((raw, _printed)) => raw,
             None => "",
@@ -55,7 +55,7 @@ impl Word {
     }
 
     /// Its word.
-    pub fn printed(self) -> &'static str {
+    pub(crate) fn printed(self) -> &'static str {
         match TEXTS.get(usize::from(self.0)) {
             Some((_raw, printed)) => printed,
             None => "",

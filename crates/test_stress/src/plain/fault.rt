@@ -5,10 +5,10 @@ use std::result;
 
 /// Out of memory, or what the model can't follow, in words.
 #[derive(Clone, Copy)]
-pub struct Fault(pub &'static str);
+pub(crate) struct Fault(pub(crate) &'static str);
 
 /// A result of the model.
-pub type Result<T> = result::Result<T, Fault>;
+pub(crate) type Result<T> = result::Result<T, Fault>;
 
 impl From<AllocError> for Fault {
     fn from(_error: AllocError) -> Fault {

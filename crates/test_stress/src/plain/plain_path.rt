@@ -1,29 +1,29 @@
 //! Paths, as the model has them: short lists of names from a table.
 
-use crate::words::NAMES;
+use crate::plain::words::NAMES;
 use std::fmt;
 
 /// The most names that a place has.
-pub const MAX_DEPTH: usize = 14;
+pub(crate) const MAX_DEPTH: usize = 14;
 
 /// A path: its names by their places in the table, counted from 1, and 0 after the last. So places are ordered as paths are: name by
 /// name, a prefix first.
 #[derive(Clone, Copy, PartialEq, Eq, PartialOrd, Ord)]
-pub struct PlainPath {
+pub(crate) struct PlainPath {
     names: [u8; MAX_DEPTH],
 }
 
 /// The root.
-pub const ROOT: PlainPath = PlainPath {
+pub(crate) const ROOT: PlainPath = PlainPath {
     names: [0; MAX_DEPTH],
 };
 
 impl PlainPath {
-    pub fn names(&self) -> &[u8] {
+    pub(crate) fn names(&self) -> &[u8] {
         &self.names
     }
 
-    pub fn depth(&self) -> usize {
+    pub(crate) fn depth(&self) -> usize {
         let mut depth = 0usize;
         for name in &self.names {
             if *name != 0 {
@@ -33,12 +33,12 @@ impl PlainPath {
         depth
     }
 
-    pub fn is_root(&self) -> bool {
+    pub(crate) fn is_root(&self) -> bool {
         self.depth() == 0
     }
 
     /// The path one name longer; None where it has too many.
-    pub fn join(self, name: u8) -> Option<PlainPath> {
+    pub(crate) fn join(self, name: u8) -> Option<PlainPath> {
         let depth = self.depth();
         let mut joined = self;
         let free = joined.names.get_mut(depth)?;
@@ -47,7 +47,7 @@ impl PlainPath {
     }
 
     /// The first that many names.
-    pub fn prefix(self, length: usize) -> PlainPath {
+    pub(crate) fn prefix(self, length: usize) -> PlainPath {
         let mut prefix = self;
         for (at, name) in prefix.names.iter_mut().enumerate() {
             if at >= length {
@@ -58,19 +58,19 @@ impl PlainPath {
     }
 
     /// The path one name shorter; None at the root.
-    pub fn parent(self) -> Option<PlainPath> {
+    pub(crate) fn parent(self) -> Option<PlainPath> {
         let length = self.depth().checked_sub(1)?;
         Some(self.prefix(length))
     }
 
     /// The last name; None at the root.
-    pub fn last(self) -> Option<u8> {
+    pub(crate) fn last(self) -> Option<u8> {
         let length = self.depth().checked_sub(1)?;
         self.names.get(length).copied()
     }
 
     /// Whether it is the other, or is below it.
-    pub fn is_within(&self, above: &PlainPath) -> bool {
+    pub(crate) fn is_within(&self, above: &PlainPath) -> bool {
         for (mine, its) in self.names.iter().zip(above.names.iter()) {
             if *its != 0 && *its != *mine {
                 return false;
@@ -80,7 +80,7 @@ impl PlainPath {
     }
 
     /// The same place with other names after it.
-    pub fn with(self, names: &[u8]) -> Option<PlainPath> {
+    pub(crate) fn with(self, names: &[u8]) -> Option<PlainPath> {
         let mut joined = self;
         for name in names {
             if *name != 0 {
@@ -91,7 +91,7 @@ impl PlainPath {
     }
 
     /// A place within one path, put in the same way within another.
-    pub fn moved(self, from: PlainPath, to: PlainPath) -> Option<PlainPath> {
+    pub(crate) fn moved(self, from: PlainPath, to: PlainPath) -> Option<PlainPath> {
         let behind = self.names.get(from.depth()..)?;
         to.with(behind)
     }
@@ -136,7 +136,7 @@ impl fmt::Display for PlainPath {
 
 /// A place as a text that the library reads as a path.
 #[derive(Clone, Copy)]
-pub struct Raw(pub PlainPath);
+pub(crate) struct Raw(pub(crate) PlainPath);
 
 impl fmt::Display for Raw {
     fn fmt<W: fmt::Write>(&self, f: &mut fmt::Formatter<W>) -> fmt::Result {

@@ -1,18 +1,18 @@
 //! What the calls do to a copy, one after the other.
 
-use crate::acts::{Act, Deed};
-use crate::base::{Base, BaseTree, own_repos, remove_within};
-use crate::fault::{Fault, Result};
-use crate::history::{NO_VALUES, Values};
-use crate::plain_path::PlainPath;
-use crate::words::{NO_TEXT, Word};
+use crate::plain::acts::{Act, Deed};
+use crate::plain::base::{Base, BaseTree, own_repos, remove_within};
+use crate::plain::fault::{Fault, Result};
+use crate::plain::history::{NO_VALUES, Values};
+use crate::plain::plain_path::PlainPath;
+use crate::plain::words::{NO_TEXT, Word};
 use svn_types::Kind;
 
 /// The revision that the calls lead to, and the path to which they switch the whole copy.
 #[derive(Clone, Copy)]
-pub struct Edition {
-    pub target: u64,
-    pub to: Option<PlainPath>,
+pub(crate) struct Edition {
+    pub(crate) target: u64,
+    pub(crate) to: Option<PlainPath>,
 }
 
 // The properties after the changes that earlier calls asked for at a path.
@@ -156,7 +156,7 @@ impl Edition {
     }
 
     /// The copy after the first n of the calls between the first and the last.
-    pub fn after(&self, before: &BaseTree, acts: &[Act], count: usize) -> Result<BaseTree> {
+    pub(crate) fn after(&self, before: &BaseTree, acts: &[Act], count: usize) -> Result<BaseTree> {
         let mut tree = before.clone()?;
         for (at, act) in acts.iter().enumerate() {
             if at < count {
@@ -169,7 +169,7 @@ impl Edition {
 
     /// What the last call does: each present node gets the target revision, and in a switch its path under the new root; what isn't present
     /// goes.
-    pub fn closed(&self, tree: &BaseTree) -> Result<BaseTree> {
+    pub(crate) fn closed(&self, tree: &BaseTree) -> Result<BaseTree> {
         let mut ended = tree.clone()?;
         ended.clear();
         for (path, base) in tree {

@@ -1,15 +1,15 @@
 //! What a copy reports, and what a report says of each path.
 
-use crate::base::{Base, BaseTree};
-use crate::fault::Result;
-use crate::history::{History, Node};
-use crate::plain_path::{PlainPath, ROOT};
+use crate::plain::base::{Base, BaseTree};
+use crate::plain::fault::Result;
+use crate::plain::history::{History, Node};
+use crate::plain::plain_path::{PlainPath, ROOT};
 use std::alloc::Global;
 use std::collections::BTreeMap;
 
 /// An entry of a report.
 #[derive(Clone, Copy)]
-pub enum Said {
+pub(crate) enum Said {
     Set {
         rev: u64,
         start_empty: bool,
@@ -24,9 +24,9 @@ pub enum Said {
 
 /// The repository path of the root, and entries by path.
 #[derive(Drop)]
-pub struct Report {
-    pub root: PlainPath,
-    pub entries: BTreeMap<PlainPath, Said>,
+pub(crate) struct Report {
+    pub(crate) root: PlainPath,
+    pub(crate) entries: BTreeMap<PlainPath, Said>,
 }
 
 // The revision and the repository path of what is present, and whether it is a directory that isn't complete.
@@ -78,7 +78,7 @@ fn said_at(tree: &BaseTree, path: PlainPath, base: &Base) -> Option<Said> {
 }
 
 /// The report of a copy.
-pub fn crawl(alloc: Global, tree: &BaseTree) -> Result<Report> {
+pub(crate) fn crawl(alloc: Global, tree: &BaseTree) -> Result<Report> {
     let mut entries = BTreeMap::new(alloc);
     let mut root = ROOT;
     for (path, base) in tree {
@@ -96,7 +96,7 @@ pub fn crawl(alloc: Global, tree: &BaseTree) -> Result<Report> {
 
 impl Report {
     /// The entry that governs a path: the nearest at it or above, with its own path.
-    pub fn governing(&self, path: PlainPath) -> Option<(PlainPath, Said)> {
+    pub(crate) fn governing(&self, path: PlainPath) -> Option<(PlainPath, Said)> {
         let depth = path.depth();
         let mut nearest = None;
         for length in 0..depth.saturating_add(1) {
@@ -109,7 +109,7 @@ impl Report {
     }
 
     /// The repository path of a path: that of a link at it, else that of the parent with the name after it.
-    pub fn repos(&self, path: PlainPath) -> Option<PlainPath> {
+    pub(crate) fn repos(&self, path: PlainPath) -> Option<PlainPath> {
         let mut repos = Some(self.root);
         for length in 1..path.depth().saturating_add(1) {
             let at = path.prefix(length);
@@ -125,7 +125,7 @@ impl Report {
     }
 
     /// The revision at which the report has a path.
-    pub fn revision(&self, path: PlainPath) -> u64 {
+    pub(crate) fn revision(&self, path: PlainPath) -> u64 {
         match self.governing(path) {
             Some((_, Said::Set { rev, .. })) | Some((_, Said::Link { rev, .. })) => rev,
             _ => 0,
@@ -133,7 +133,7 @@ impl Report {
     }
 
     /// Whether an entry at the path itself says that the directory there has nothing yet.
-    pub fn starts_empty(&self, path: PlainPath) -> bool {
+    pub(crate) fn starts_empty(&self, path: PlainPath) -> bool {
         match self.entries.get(&path) {
             Some(Said::Set { start_empty, .. }) => *start_empty,
             Some(Said::Link { start_empty, .. }) => *start_empty,
@@ -142,7 +142,7 @@ impl Report {
     }
 
     /// Whether an entry is strictly below a path.
-    pub fn has_entry_below(&self, path: PlainPath) -> bool {
+    pub(crate) fn has_entry_below(&self, path: PlainPath) -> bool {
         for place in self.entries.keys() {
             if place.is_within(&path) && *place != path {
                 return true;
@@ -152,7 +152,7 @@ impl Report {
     }
 
     /// The node that the client has at a path.
-    pub fn source(&self, history: &History, path: PlainPath) -> Option<Node> {
+    pub(crate) fn source(&self, history: &History, path: PlainPath) -> Option<Node> {
         let (at, said) = self.governing(path)?;
         match said {
             Said::Delete => None,

@@ -1,16 +1,16 @@
 //! The calls of a drive: those of each path by itself, put in order by sorting.
 
-use crate::fault::Result;
-use crate::history::{NO_VALUES, Node, Values};
-use crate::plain_path::{MAX_DEPTH, PlainPath};
-use crate::request::Facts;
-use crate::words::{NO_TEXT, Word};
+use crate::plain::fault::Result;
+use crate::plain::history::{NO_VALUES, Node, Values};
+use crate::plain::plain_path::{MAX_DEPTH, PlainPath};
+use crate::plain::request::Facts;
+use crate::plain::words::{NO_TEXT, Word};
 use std::alloc::Global;
 use svn_types::Kind;
 
 /// What a call does to the node at its path. A property is named by its place in the table.
 #[derive(Clone, Copy)]
-pub enum Deed {
+pub(crate) enum Deed {
     Delete { rev: u64 },
     Open { base: u64 },
     Add,
@@ -31,11 +31,11 @@ const _: () = prove!(KEY_LENGTH == MAX_DEPTH + 1);
 
 /// A call, its path in the place of its token.
 #[derive(Clone, Copy)]
-pub struct Act {
+pub(crate) struct Act {
     key: Key,
-    pub path: PlainPath,
-    pub kind: Kind,
-    pub deed: Deed,
+    pub(crate) path: PlainPath,
+    pub(crate) kind: Kind,
+    pub(crate) deed: Deed,
 }
 
 fn put_names(key: &mut [u8], names: &[u8]) {
@@ -184,7 +184,7 @@ impl Calls {
 }
 
 /// The calls between the first and the last of a drive.
-pub fn drive(alloc: Global, all: &[Facts], is_late: bool) -> Result<Vec<Act>> {
+pub(crate) fn drive(alloc: Global, all: &[Facts], is_late: bool) -> Result<Vec<Act>> {
     let mut calls = Calls {
         acts: Vec::new(alloc),
         is_late,

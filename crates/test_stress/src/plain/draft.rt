@@ -1,15 +1,15 @@
 //! Commits, as the model makes them: each change is a function on a flat map.
 
-use crate::fault::{Fault, Result};
-use crate::history::{History, NO_VALUES, Node, Tree};
-use crate::plain_path::PlainPath;
-use crate::words::{NO_TEXT, Word};
+use crate::plain::fault::{Fault, Result};
+use crate::plain::history::{History, NO_VALUES, Node, Tree};
+use crate::plain::plain_path::PlainPath;
+use crate::plain::words::{NO_TEXT, Word};
 use svn_repo::CommitFault;
 use svn_types::Kind;
 
 /// A change of a commit. A property is named by its place in the table.
 #[derive(Clone, Copy)]
-pub enum Edit {
+pub(crate) enum Edit {
     MakeDir {
         path: PlainPath,
     },
@@ -34,7 +34,7 @@ pub enum Edit {
 
 impl Edit {
     /// The path at which something changes.
-    pub fn path(&self) -> PlainPath {
+    pub(crate) fn path(&self) -> PlainPath {
         match *self {
             Edit::MakeDir { path }
             | Edit::Put { path, .. }
@@ -47,11 +47,11 @@ impl Edit {
 
 /// The next revision as the changes so far make it, or why the first that can't be made is refused.
 #[derive(Drop)]
-pub struct Draft {
-    pub tree: Tree,
-    pub fault: Option<CommitFault>,
-    pub next_line: u64,
-    pub next_number: u64,
+pub(crate) struct Draft {
+    pub(crate) tree: Tree,
+    pub(crate) fault: Option<CommitFault>,
+    pub(crate) next_line: u64,
+    pub(crate) next_number: u64,
 }
 
 // Why there is no way to a path: what is above it must be a directory, and with `whole` something must be at the path too.
@@ -78,7 +78,7 @@ fn source_fault(history: &History, rev: u64, source: PlainPath) -> Option<Commit
 
 impl Draft {
     /// No changes yet.
-    pub fn begin(history: &History) -> Result<Draft> {
+    pub(crate) fn begin(history: &History) -> Result<Draft> {
         Ok(Draft {
             tree: history.last_tree()?,
             fault: None,
@@ -104,7 +104,7 @@ impl Draft {
     }
 
     /// Why a change can't be made after those so far.
-    pub fn fault_of(&self, history: &History, edit: Edit) -> Option<CommitFault> {
+    pub(crate) fn fault_of(&self, history: &History, edit: Edit) -> Option<CommitFault> {
         match edit {
             Edit::MakeDir { path } => self.making_fault(path, false),
             Edit::Put { path, .. } => self.making_fault(path, true),
@@ -221,7 +221,7 @@ impl Draft {
     }
 
     /// Makes one more change, unless one before can't be made.
-    pub fn add(&mut self, history: &History, edit: Edit) -> Result<()> {
+    pub(crate) fn add(&mut self, history: &History, edit: Edit) -> Result<()> {
         if self.fault.is_some() {
             return Ok(());
         }
@@ -234,7 +234,7 @@ impl Draft {
     }
 
     /// Makes the changes a revision, unless one can't be made, and begins anew after the last revision.
-    pub fn commit(&mut self, history: &mut History) -> Result<Option<CommitFault>> {
+    pub(crate) fn commit(&mut self, history: &mut History) -> Result<Option<CommitFault>> {
         let fault = self.fault;
         if fault.is_none() {
             history.revisions.push(self.tree.clone()?)?;
