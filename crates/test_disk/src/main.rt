@@ -1,11 +1,12 @@
-//! Working copies that are brought to disk: each stop of a checkout and of its completion, by the program's end and by a loss of power; each stop of a false
-//! copy's being put right, and of an update; what the folder has at the end; what is refused; clients that write meanwhile. The folder is one in memory, whose
-//! crashes are those of `svn_folder`.
+//! Folders (`folders.rt`), and working copies that are brought to disk: each stop of a checkout and of its completion, by the program's end and by a loss of
+//! power; each stop of a false copy's being put right, and of an update; what the folder has at the end; what is refused; clients that write meanwhile. The
+//! folder of a copy is one in memory, whose crashes are those of `svn_folder`.
 #![tactic(auto)]
 
 mod between;
 mod clients;
 mod copies;
+mod folders;
 mod histories;
 mod mend_refusals;
 mod mends;
@@ -19,15 +20,18 @@ mod updates;
 use anyhow::Result;
 use clients::try_clients;
 use copies::{copy, empty, inner, make};
+use folders::try_folders;
 use mend_refusals::try_mend_refusals;
 use mends::{Falsehood, try_lost_mends, try_stopped_mends};
 use refusals::try_refusals;
 use std::alloc::Global;
+use std::fs::File;
 use std::process::ExitCode;
+use std::rt::Files;
 use std::sync::Wait;
 use std::thread::Threads;
 use stops::{try_losses, try_resumes, try_stops};
-use svn_folder::MemoryFolder;
+use svn_folder::{FileMaker, Locks, MemoryFolder};
 use svn_wc::WorkingCopy;
 use update_rows::try_rows;
 use updates::{Advance, try_limits, try_lost_updates, try_stopped_updates};
@@ -64,7 +68,10 @@ fn try_copies<R: Print + AllocGlobal>(rt: &R) -> Result<()> {
     try_clients(rt, &falsehood)
 }
 
-fn try_all<R: Print + Threads + Wait + Sync + AllocGlobal>(rt: &R) -> Result<()> {
+fn try_all<R: Files<File = File> + Threads + Wait + Sync + Locks + FileMaker + Print + AllocGlobal>(
+    rt: &R,
+) -> Result<()> {
+    try_folders(rt)?;
     try_copies(rt)?;
     try_updates(rt)
 }

@@ -1,10 +1,11 @@
-//! What Subversion wrote: databases of working copies, connections with its server, and a dump, of which the last changes are found. What is printed is
-//! what SQLite and Subversion say of them, or what was worked out by hand.
+//! What Subversion wrote: databases of working copies, connections with its server, sessions of its client, which are served here, and a dump, of which the
+//! last changes are found. What is printed is what SQLite and Subversion say of them, or what was worked out by hand.
 #![tactic(auto)]
 
 mod changes;
 mod connections;
 mod databases;
+mod sessions;
 
 use anyhow::Result;
 use std::env;
@@ -18,5 +19,6 @@ fn main(rt: HostRuntime) -> Result<()> {
     }
     databases::print(&rt, words)?;
     connections::print(&rt)?;
+    sessions::print(&rt)?;
     changes::print(&rt, rt.stdin())
 }

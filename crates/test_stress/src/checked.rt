@@ -1,13 +1,13 @@
 //! A copy with its model, and the changes of a copy alone.
 
+use crate::plain::{
+    BaseTree, Fault, History, PlainPath, checked_out, crawl, first_untrue, forget, placing_fault,
+    put_at,
+};
 use crate::stop::{Result, Stop, holds};
 use crate::{compare, real};
 use std::alloc::Global;
 use svn_update::{Repo, Rev, WcFault, WorkingCopy};
-use test_plain::{
-    BaseTree, Fault, History, PlainPath, checked_out, crawl, first_untrue, forget, placing_fault,
-    put_at,
-};
 
 /// What a stopped run owes: a run to the same target, asked for next, ends with this.
 #[derive(Drop)]

@@ -1,5 +1,9 @@
 //! What the library has, compared with what the model has.
 
+use crate::plain::{
+    Base, BaseTree, History, NAMES, Node, PROP_NAMES, PlainPath, ROOT, Report, Said, Tree, Values,
+    Word,
+};
 use crate::real;
 use crate::stop::Result;
 use std::alloc::Global;
@@ -7,10 +11,6 @@ use std::collections::BTreeMap;
 use svn_report::ReportEntry;
 use svn_update::{
     BaseNode, Kind, Name, NodeId, PropName, Props, RelPath, Repo, Rev, Text, WorkingCopy,
-};
-use test_plain::{
-    Base, BaseTree, History, NAMES, Node, PROP_NAMES, PlainPath, ROOT, Report, Said, Tree, Values,
-    Word,
 };
 
 fn is_name(name: &Name, number: u8) -> bool {

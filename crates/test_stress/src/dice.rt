@@ -1,9 +1,9 @@
 //! Random numbers, the same on every machine for the same seed.
 
+use crate::plain::{PlainPath, ROOT};
 use rand_core::Rng;
 use rand_pcg::Pcg32;
 use std::collections::BTreeMap;
-use test_plain::{PlainPath, ROOT};
 
 /// A generator. Two of one seed and of different numbers give different histories.
 #[derive(Drop)]

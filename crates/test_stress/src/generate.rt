@@ -2,13 +2,13 @@
 
 use crate::checked::Checked;
 use crate::dice::Dice;
-use crate::step::{Run, Step};
-use crate::world::World;
-use svn_update::Kind;
-use test_plain::{
+use crate::plain::{
     Base, BaseTree, Edit, History, NAMES, PROP_NAMES, PlainPath, ROOT, TEXT_COUNT, Tree, Word,
     forgetting_fault, placing_fault,
 };
+use crate::step::{Run, Step};
+use crate::world::World;
+use svn_update::Kind;
 
 /// The newest revision of a history.
 const LAST_REVISION: u64 = 6;

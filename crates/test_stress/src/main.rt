@@ -3,9 +3,9 @@
 //! The first argument is the seed, the second how many updates and switches are made. The same arguments make the same run on
 //! every machine. Where something differs it prints what, and the history as a script for `svnup`, made short, and ends with status 1.
 //!
-//! Files: `dice` and `generate` choose the next `step`; `world` and `runs` make it on both sides; `real` has the library's values for the model's, `checked` a copy beside its
-//! model, `compare` compares them; `stop` is why a history goes no further (a difference or a fault), `counts` what was done, and `shorten` makes a
-//! history that shows a difference short.
+//! Files: `plain` is the model; `dice` and `generate` choose the next `step`; `world` and `runs` make it on both sides; `real` has the library's values for
+//! the model's, `checked` a copy beside its model, `compare` compares them; `stop` is why a history goes no further (a difference or a fault), `counts`
+//! what was done, and `shorten` makes a history that shows a difference short.
 #![tactic(auto)]
 
 mod checked;
@@ -13,6 +13,7 @@ mod compare;
 mod counts;
 mod dice;
 mod generate;
+mod plain;
 mod real;
 mod runs;
 mod shorten;

@@ -1,9 +1,9 @@
 //! The library's values for those of the model.
 
+use crate::plain::{Edit, PROP_NAMES, PlainPath, Raw, Word};
 use crate::stop::Result;
 use std::alloc::Global;
 use svn_update::{Change, PropName, RelPath, Rev, Text};
-use test_plain::{Edit, PROP_NAMES, PlainPath, Raw, Word};
 
 pub(crate) fn path(alloc: Global, place: PlainPath) -> Result<RelPath> {
     let raw = Raw(place);

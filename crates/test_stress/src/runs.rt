@@ -2,6 +2,10 @@
 
 use crate::checked::{Checked, Promise};
 use crate::counts::RunCounts;
+use crate::plain::{
+    Act, BaseTree, Edition, Facts, Fault, History, PlainPath, Request, TargetFault, Tokens, crawl,
+    drive as acts_of, line, result,
+};
 use crate::real;
 use crate::step::Run;
 use crate::stop::{Result, Stop, holds};
@@ -16,10 +20,6 @@ use svn_report::Report;
 use svn_update::{
     Cause, NoGate, Options, Outcome, Repo, Rev, RunFault, WorkingCopy, switch_to,
     switch_to_in_turn, update, update_in_turn,
-};
-use test_plain::{
-    Act, BaseTree, Edition, Facts, Fault, History, PlainPath, Request, TargetFault, Tokens, crawl,
-    drive as acts_of, line, result,
 };
 
 // What a run must do: the calls between the first and the last, after how many calls it is stopped, the copy that it leaves,

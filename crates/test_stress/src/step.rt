@@ -1,7 +1,7 @@
 //! The steps of a random history, and the lines of a script that they are.
 
+use crate::plain::{Edit, PROP_NAMES, PlainPath, Word};
 use std::fmt;
-use test_plain::{Edit, PROP_NAMES, PlainPath, Word};
 
 /// How an update or a switch of the whole copy is run.
 #[derive(Clone, Copy)]

@@ -1,10 +1,10 @@
 //! Why a history goes no further.
 
+use crate::plain::Fault;
 use std::alloc::{AllocError, AllocFailed, Global};
 use std::{io, result};
 use svn_drive::DriveFault;
 use svn_update::{CommitFault, PathFault, WcFault};
-use test_plain::Fault;
 
 /// Why a history goes no further.
 #[derive(Drop)]

@@ -3,6 +3,7 @@
 use crate::checked::{self, Checked, Placing};
 use crate::compare::{self, Ids};
 use crate::counts::{Counts, NO_COUNTS};
+use crate::plain::{Draft, Edit, History, PlainPath, checkout_fault, forgetting_fault};
 use crate::real;
 use crate::step::Step;
 use crate::stop::{Result, Stop};
@@ -11,7 +12,6 @@ use std::collections::BTreeMap;
 use std::sync::Wait;
 use std::thread::Threads;
 use svn_update::{Change, CommitFault, Repo, Rev, WcFault, WorkingCopy};
-use test_plain::{Draft, Edit, History, PlainPath, checkout_fault, forgetting_fault};
 
 /// A repository and perhaps a copy, each with its model.
 #[derive(Drop)]

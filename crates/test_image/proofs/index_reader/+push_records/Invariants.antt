@@ -1,4 +1,0 @@
-use Rattle.test_image.proofs.index_reader.+push_records.Given as goal
-
-abbrev pub decreases-push_records : goal.decreases-push_records
-decreases-push_records l = l.levels
