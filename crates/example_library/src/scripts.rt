@@ -58,6 +58,15 @@ fn output_of<R: Threads + Wait + Sync>(
     Ok(output)
 }
 
+// What a script does with what it must print.
+fn verb_of(output: &[u8], wanted: &[u8]) -> &'static str {
+    if output == wanted {
+        "prints its output"
+    } else {
+        "PRINTS SOMETHING ELSE"
+    }
+}
+
 // Runs a script in each way.
 fn compare<R: Files + AllocGlobal + Threads + Wait + Sync + Print>(
     rt: &R,
@@ -67,11 +76,7 @@ fn compare<R: Files + AllocGlobal + Threads + Wait + Sync + Print>(
     let wanted = fs::read(rt, format!(in rt.alloc(); "{name}.output")?)?;
     for (way, settings) in &WAYS {
         let output = output_of(rt, rt.alloc(), settings, &script)?;
-        if output == wanted {
-            println!(rt; "{name} prints its output {way}")?;
-        } else {
-            println!(rt; "{name} PRINTS SOMETHING ELSE {way}")?;
-        }
+        println!(rt; "{name} {} {way}", verb_of(&output, &wanted))?;
     }
     Ok(())
 }

@@ -23,7 +23,7 @@ Example: svnadmin dump repo | svnaudit check - copy";
 const WAYS: &[&str] = &["sha1", "md5", "whole"];
 
 /// `show DUMP REV [PATH]`: print the tree at a path of a revision.
-#[derive(Clone, Copy, Debug)]
+#[derive(Clone, Copy)]
 pub(crate) struct Show<'a> {
     /// The dump.
     pub(crate) dump: Source<'a>,
@@ -38,7 +38,7 @@ pub(crate) struct Show<'a> {
 }
 
 /// `write SCRIPT`: write what the commits of a script make as a dump.
-#[derive(Clone, Copy, Debug)]
+#[derive(Clone, Copy)]
 pub(crate) struct Write<'a> {
     /// The script.
     pub(crate) script: Source<'a>,
@@ -47,7 +47,7 @@ pub(crate) struct Write<'a> {
 }
 
 /// `live TO FROM WC..`: whether these copies are true of what a server says.
-#[derive(Debug, Drop)]
+#[derive(Drop)]
 pub(crate) struct Live<'a> {
     /// What the server reads; with `-` it is standard output.
     pub(crate) to: Source<'a>,
@@ -64,7 +64,7 @@ pub(crate) struct Live<'a> {
 }
 
 /// `check DUMP WC..`: whether each of these is true of the history.
-#[derive(Debug, Drop)]
+#[derive(Drop)]
 pub(crate) struct Check<'a> {
     /// The folders of the copies.
     pub(crate) copies: Vec<&'a str>,
@@ -75,7 +75,7 @@ pub(crate) struct Check<'a> {
 }
 
 /// What is asked about working copies.
-#[derive(Debug, Drop)]
+#[derive(Drop)]
 pub(crate) enum Subject<'a> {
     /// Whether they are true.
     Check(Check<'a>),
@@ -84,7 +84,7 @@ pub(crate) enum Subject<'a> {
 }
 
 /// A question about working copies.
-#[derive(Debug, Drop)]
+#[derive(Drop)]
 pub(crate) struct Question<'a> {
     /// What is asked, of which folders.
     pub(crate) subject: Subject<'a>,
@@ -97,7 +97,7 @@ pub(crate) struct Question<'a> {
 }
 
 /// What is asked for.
-#[derive(Debug, Drop)]
+#[derive(Drop)]
 pub(crate) enum Request<'a> {
     Show(Show<'a>),
     Write(Write<'a>),
@@ -124,11 +124,25 @@ fn word<'a>(alloc: Global, id: &'a str, name: &'a str, help: &'a str) -> Arg<'a>
     Arg::new(alloc, id).value_name(name).help(help)
 }
 
-fn progress_option<'a>(alloc: Global) -> Arg<'a> {
-    Arg::new(alloc, "progress")
-        .long("progress")
+// One that must be there.
+fn required_word<'a>(alloc: Global, id: &'a str, name: &'a str, help: &'a str) -> Arg<'a> {
+    word(alloc, id, name, help).required(true)
+}
+
+// An option that is there or not.
+fn flag<'a>(alloc: Global, name: &'a str, help: &'a str) -> Arg<'a> {
+    Arg::new(alloc, name)
+        .long(name)
         .action(ArgAction::SetTrue)
-        .help("Print on standard error how many revisions and bytes are done")
+        .help(help)
+}
+
+fn progress_option<'a>(alloc: Global) -> Arg<'a> {
+    flag(
+        alloc,
+        "progress",
+        "Print on standard error how many revisions and bytes are done",
+    )
 }
 
 fn texts_option<'a>(alloc: Global) -> Arg<'a> {
@@ -143,14 +157,13 @@ fn texts_option<'a>(alloc: Global) -> Arg<'a> {
 fn show_command<'a>(alloc: Global) -> Result<Command<'a>, AllocError> {
     Command::new(alloc, "show")
         .about("Print the tree of a revision, at a path")
-        .arg(word(alloc, "dump", "DUMP", "The dump, or - for standard input").required(true))?
-        .arg(word(
+        .arg(required_word(alloc, "dump", "DUMP", "The dump, or - for standard input"))?
+        .arg(required_word(
             alloc,
             "rev",
             "REV",
             "The revision: a number, r and a number, or HEAD",
-        )
-        .required(true))?
+        ))?
         .arg(word(alloc, "path", "PATH", "A path of the repository").default_value(""))?
         .arg(texts_option(alloc))?
         .arg(progress_option(alloc))
@@ -159,13 +172,12 @@ fn show_command<'a>(alloc: Global) -> Result<Command<'a>, AllocError> {
 fn write_command<'a>(alloc: Global) -> Result<Command<'a>, AllocError> {
     Command::new(alloc, "write")
         .about("Write what the commits of a script make as a dump, for `svnadmin load`")
-        .arg(word(
+        .arg(required_word(
             alloc,
             "script",
             "SCRIPT",
             "The script, or - for standard input",
-        )
-        .required(true))?
+        ))?
         .arg(progress_option(alloc))
 }
 
@@ -177,7 +189,7 @@ fn question_command<'a>(
 ) -> Result<Command<'a>, AllocError> {
     Command::new(alloc, name)
         .about(about)
-        .arg(word(alloc, "dump", "DUMP", "The dump, or - for standard input").required(true))?
+        .arg(required_word(alloc, "dump", "DUMP", "The dump, or - for standard input"))?
         .arg(texts_option(alloc))?
         .arg(progress_option(alloc))
 }
@@ -188,54 +200,47 @@ fn check_command<'a>(alloc: Global) -> Result<Command<'a>, AllocError> {
         "check",
         "Say whether working copies are true of the history",
     )?
-    .arg(
-        word(alloc, "copies", "WC", "A folder of a working copy")
-            .required(true)
-            .num_args(1..),
-    )?
-    .arg(
-        Arg::new(alloc, "files")
-            .long("files")
-            .action(ArgAction::SetTrue)
-            .help("Compare the files with their pristine texts, too"),
-    )?
-    .arg(
-        Arg::new(alloc, "any-uuid")
-            .long("any-uuid")
-            .action(ArgAction::SetTrue)
-            .help("Take copies of another UUID than the dump's, as those of a mirror"),
+    .arg(required_word(alloc, "copies", "WC", "A folder of a working copy").num_args(1..))?
+    .arg(flag(
+        alloc,
+        "files",
+        "Compare the files with their pristine texts, too",
+    ))?
+    .arg(flag(
+        alloc,
+        "any-uuid",
+        "Take copies of another UUID than the dump's, as those of a mirror",
+    ))
+}
+
+fn url_option<'a>(alloc: Global) -> Arg<'a> {
+    Arg::new(alloc, "url").long("url").value_name("URL").help(
+        "Ask for the repository at this URL, and not at the one of the first copy",
     )
 }
 
 fn live_command<'a>(alloc: Global) -> Result<Command<'a>, AllocError> {
     Command::new(alloc, "live")
         .about("Say whether working copies are true of what a server says")
-        .arg(word(
+        .arg(required_word(
             alloc,
             "to",
             "TO",
             "The named pipe that the server reads; or -, and a WC in place of FROM: the server is at standard output and input",
-        )
-        .required(true))?
-        .arg(word(alloc, "from", "FROM", "The named pipe that it writes").required(true))?
+        ))?
+        .arg(required_word(alloc, "from", "FROM", "The named pipe that it writes"))?
         .arg(word(alloc, "copies", "WC", "A folder of a working copy").num_args(0..))?
-        .arg(
-            Arg::new(alloc, "url").long("url").value_name("URL").help(
-                "Ask for the repository at this URL, and not at the one of the first copy",
-            ),
-        )?
-        .arg(
-            Arg::new(alloc, "one-by-one")
-                .long("one-by-one")
-                .action(ArgAction::SetTrue)
-                .help("Wait for each answer before the next question"),
-        )?
-        .arg(
-            Arg::new(alloc, "progress")
-                .long("progress")
-                .action(ArgAction::SetTrue)
-                .help("Print on standard error what is waited for, and how many nodes are done"),
-        )
+        .arg(url_option(alloc))?
+        .arg(flag(
+            alloc,
+            "one-by-one",
+            "Wait for each answer before the next question",
+        ))?
+        .arg(flag(
+            alloc,
+            "progress",
+            "Print on standard error what is waited for, and how many nodes are done",
+        ))
 }
 
 // The words of a question about one copy.
@@ -245,13 +250,8 @@ fn copy_command<'a>(
     about: &'a str,
 ) -> Result<Command<'a>, AllocError> {
     question_command(alloc, name, about)?
-        .arg(word(alloc, "copy", "WC", "The folder of a working copy").required(true))?
-        .arg(
-            Arg::new(alloc, "allow-untrue")
-                .long("allow-untrue")
-                .action(ArgAction::SetTrue)
-                .help("Take an untrue copy all the same"),
-        )
+        .arg(required_word(alloc, "copy", "WC", "The folder of a working copy"))?
+        .arg(flag(alloc, "allow-untrue", "Take an untrue copy all the same"))
 }
 
 // The same with the revision that is updated to.
@@ -268,35 +268,40 @@ fn update_command<'a>(
     ))
 }
 
+// With the questions about one copy.
+fn with_copy_commands<'a>(alloc: Global, all: Command<'a>) -> Result<Command<'a>, AllocError> {
+    all.subcommand(copy_command(
+        alloc,
+        "report",
+        "Print what the client of a working copy reports",
+    )?)?
+    .subcommand(update_command(
+        alloc,
+        "update",
+        "Print the lines that an update of a working copy prints",
+    )?)?
+    .subcommand(update_command(
+        alloc,
+        "calls",
+        "Print the calls of the editor in an update of a working copy",
+    )?)?
+    .subcommand(update_command(
+        alloc,
+        "nodes",
+        "Print the nodes of a working copy after an update",
+    )?)
+}
+
 fn command<'a>(alloc: Global) -> Result<Command<'a>, AllocError> {
-    Command::new(alloc, "svnaudit")
+    let all = Command::new(alloc, "svnaudit")
         .version(VERSION)
         .about(ABOUT)
         .after_help(AFTER)
         .subcommand_required(true)
         .disable_help_subcommand(true)
         .subcommand(check_command(alloc)?)?
-        .subcommand(live_command(alloc)?)?
-        .subcommand(copy_command(
-            alloc,
-            "report",
-            "Print what the client of a working copy reports",
-        )?)?
-        .subcommand(update_command(
-            alloc,
-            "update",
-            "Print the lines that an update of a working copy prints",
-        )?)?
-        .subcommand(update_command(
-            alloc,
-            "calls",
-            "Print the calls of the editor in an update of a working copy",
-        )?)?
-        .subcommand(update_command(
-            alloc,
-            "nodes",
-            "Print the nodes of a working copy after an update",
-        )?)?
+        .subcommand(live_command(alloc)?)?;
+    with_copy_commands(alloc, all)?
         .subcommand(show_command(alloc)?)?
         .subcommand(write_command(alloc)?)
 }
@@ -408,17 +413,21 @@ fn question_of<'a>(subject: Subject<'a>, matches: &ArgMatches<'a>) -> Question<'
     }
 }
 
-/// What the words of a call ask for. The first is the program's name.
-pub(crate) fn request_of<'a>(alloc: Global, words: &'a [&'a str]) -> Result<Request<'a>, Error> {
-    let matches = command(alloc)?.try_get_matches_from(words)?;
-    let Some((name, words)) = matches.subcommand() else {
-        // a subcommand is required
-        return Err(Error::from(AllocError));
-    };
-    let word = match name {
+// The word for a revision, of a command that takes one.
+fn rev_word<'a>(name: &str, words: &ArgMatches<'a>) -> &'a str {
+    match name {
         "show" | "update" | "calls" | "nodes" => words.get_str("rev").unwrap_or("HEAD"),
         _ => "HEAD",
-    };
+    }
+}
+
+// What a command asks for, by its name.
+fn request_by<'a>(
+    alloc: Global,
+    name: &str,
+    words: &ArgMatches<'a>,
+) -> Result<Request<'a>, AllocError> {
+    let word = rev_word(name, words);
     let Ok(rev) = rev_of(word) else {
         return Ok(Request::NoRevision(word));
     };
@@ -429,5 +438,15 @@ pub(crate) fn request_of<'a>(alloc: Global, words: &'a [&'a str]) -> Result<Requ
         "live" => Ok(Request::Live(live_of(alloc, words)?)),
         "show" => Ok(Request::Show(show_of(rev, words))),
         _ => Ok(Request::Write(write_of(words))),
+    }
+}
+
+/// What the words of a call ask for. The first is the program's name.
+pub(crate) fn request_of<'a>(alloc: Global, words: &'a [&'a str]) -> Result<Request<'a>, Error> {
+    let matches = command(alloc)?.try_get_matches_from(words)?;
+    match matches.subcommand() {
+        Some((name, words)) => Ok(request_by(alloc, name, words)?),
+        // a subcommand is required
+        None => Err(Error::from(AllocError)),
     }
 }

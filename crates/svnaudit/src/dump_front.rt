@@ -19,7 +19,7 @@ const PACKED: &[(&[u8], Packer)] = &[
 ];
 
 /// A program that packs files.
-#[derive(Clone, Copy, Debug)]
+#[derive(Clone, Copy)]
 pub(crate) enum Packer {
     Gzip,
     Bzip2,

@@ -11,7 +11,7 @@ use svn_repo::CommitFault;
 use svn_types::{PathFault, RelPath, Rev};
 
 /// Why nothing is done, or no more than was.
-#[derive(Debug, Drop)]
+#[derive(Drop)]
 pub(crate) enum Fault {
     /// The words of the command line can't be had.
     Words(io::Error),
@@ -92,38 +92,78 @@ impl From<BusyFault> for Fault {
     }
 }
 
+fn write_after<W: fmt::Write>(
+    f: &mut fmt::Formatter<W>,
+    words: &str,
+    error: &io::Error,
+) -> fmt::Result {
+    write!(f, "{words}: {error}")
+}
+
+fn write_packed<W: fmt::Write>(f: &mut fmt::Formatter<W>, packer: Packer) -> fmt::Result {
+    write!(f, "this is packed by {packer}: unpack it first")
+}
+
+fn write_folder<W: fmt::Write>(f: &mut fmt::Formatter<W>, name: &str) -> fmt::Result {
+    write!(
+        f,
+        "this is a folder: of a repository `svnadmin dump -q {name}` writes the dump"
+    )
+}
+
+fn write_no_revision<W: fmt::Write>(f: &mut fmt::Formatter<W>, rev: Rev, last: Rev) -> fmt::Result {
+    write!(f, "there is no r{}: the last is r{}", rev.0, last.0)
+}
+
+fn write_no_node<W: fmt::Write>(
+    f: &mut fmt::Formatter<W>,
+    rev: Rev,
+    path: &RelPath,
+) -> fmt::Result {
+    let path = PathWord(path);
+    write!(f, "r{}: nothing is at {path}", rev.0)
+}
+
+fn write_bad_path<W: fmt::Write>(f: &mut fmt::Formatter<W>, fault: PathFault) -> fmt::Result {
+    write!(f, "bad path: {fault}")
+}
+
+fn write_line<W: fmt::Write>(f: &mut fmt::Formatter<W>, line: u64, words: &str) -> fmt::Result {
+    write!(f, "line {line}: {words}")
+}
+
+fn write_refused<W: fmt::Write>(
+    f: &mut fmt::Formatter<W>,
+    line: u64,
+    fault: CommitFault,
+) -> fmt::Result {
+    write!(f, "line {line}: {fault}")
+}
+
 impl fmt::Display for Fault {
     fn fmt<W: fmt::Write>(&self, f: &mut fmt::Formatter<W>) -> fmt::Result {
         match self {
-            Fault::Words(error) => write!(f, "words of the command line: {error}"),
-            Fault::Unread(error) => write!(f, "{error}"),
-            Fault::Packed(packer) => write!(f, "this is packed by {packer}: unpack it first"),
-            Fault::Dump(text) => write!(f, "{text}"),
-            Fault::NoRevision(rev, last) => {
-                write!(f, "there is no r{}: the last is r{}", rev.0, last.0)
-            }
-            Fault::NoNode(rev, path) => {
-                let path = PathWord(path);
-                write!(f, "r{}: nothing is at {path}", rev.0)
-            }
+            Fault::Words(error) => write_after(f, "words of the command line", error),
+            Fault::Unread(error) => fmt::Display::fmt(error, f),
+            Fault::Packed(packer) => write_packed(f, *packer),
+            Fault::Dump(text) => f.write_str(text.as_str()),
+            Fault::NoRevision(rev, last) => write_no_revision(f, *rev, *last),
+            Fault::NoNode(rev, path) => write_no_node(f, *rev, path),
             Fault::BadRevision => {
                 f.write_str("no revision: it is a number, r and a number, or HEAD")
             }
-            Fault::Folder(name) => write!(
-                f,
-                "this is a folder: of a repository `svnadmin dump -q {name}` writes the dump"
-            ),
-            Fault::BadPath(fault) => write!(f, "bad path: {fault}"),
-            Fault::BadLine(line) => write!(f, "line {line}: bad line"),
-            Fault::LongLine(line) => write!(f, "line {line}: line too long"),
-            Fault::Refused(line, fault) => write!(f, "line {line}: {fault}"),
+            Fault::Folder(name) => write_folder(f, name.as_str()),
+            Fault::BadPath(fault) => write_bad_path(f, *fault),
+            Fault::BadLine(line) => write_line(f, *line, "bad line"),
+            Fault::LongLine(line) => write_line(f, *line, "line too long"),
+            Fault::Refused(line, fault) => write_refused(f, *line, *fault),
             Fault::NoCopy => f.write_str("no working copy"),
             Fault::NoFolder => f.write_str("this is a file: a working copy is a folder"),
-            Fault::Unopened(error) => write!(f, "what the server reads: {error}"),
+            Fault::Unopened(error) => write_after(f, "what the server reads", error),
             Fault::NoWords => f.write_str("live TO FROM: no WC is named"),
-            Fault::Server(fault) => write!(f, "{fault}"),
-            Fault::Busy(fault) => write!(f, "{fault}"),
-            Fault::Pristine(refusal) => write!(f, "{refusal}"),
+            Fault::Server(fault) => fmt::Display::fmt(fault, f),
+            Fault::Busy(fault) => fmt::Display::fmt(fault, f),
+            Fault::Pristine(refusal) => fmt::Display::fmt(refusal, f),
             Fault::Read => f.write_str("read fault"),
             Fault::Write => f.write_str("write fault"),
             Fault::Memory => f.write_str("out of memory"),

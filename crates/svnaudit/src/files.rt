@@ -3,6 +3,7 @@
 use crate::fault::Fault;
 use crate::folder::Folder;
 use crate::pristine::open_pristine;
+use std::alloc::Global;
 use std::fs::File;
 use std::io;
 use std::io::Write;
@@ -21,6 +22,11 @@ struct Tally {
     compared: u64,
     changed: u64,
     passed_over: u64,
+}
+
+// Why a file or its pristine text can't be read.
+fn unread(alloc: Global, error: &io::Error) -> Result<Option<String>, Fault> {
+    Ok(Some(format!(in alloc; "{error}")?))
 }
 
 /// The files of one working copy.
@@ -49,13 +55,13 @@ impl<T: Files + AllocGlobal> Working<'_, T> {
         let alloc = self.rt.alloc();
         let mut file = match self.open(path)? {
             Ok(file) => file,
-            Err(error) => return Ok(Some(format!(in alloc; "{error}")?)),
+            Err(error) => return unread(alloc, &error),
         };
         let mut pristine = open_pristine(self.rt, self.folder, path, name)?;
         match comparison.have_same_bytes(&mut file, &mut pristine) {
             Ok(true) => Ok(None),
             Ok(false) => Ok(Some(OTHER_BYTES.to_string(alloc)?)),
-            Err(error) => Ok(Some(format!(in alloc; "{error}")?)),
+            Err(error) => unread(alloc, &error),
         }
     }
 }

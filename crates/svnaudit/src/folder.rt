@@ -28,24 +28,36 @@ fn path_below(alloc: Global, below: &str) -> Result<RelPath, Fault> {
     }
 }
 
+// The whole path of what a word names.
+fn canonical<T: Files + AllocGlobal>(rt: &T, word: &str) -> Result<PathBuf, Fault> {
+    match fs::canonicalize(rt, word) {
+        Ok(here) => Ok(here),
+        Err(error) => Err(Fault::Unread(error)),
+    }
+}
+
+// The folder of a working copy, in which another was named.
+fn folder_of(alloc: Global, root: PathBuf, here: &PathBuf) -> Result<Folder, Fault> {
+    match here.strip_prefix(&root) {
+        Ok(below) => Ok(Folder {
+            below: path_below(alloc, below.as_str())?,
+            root,
+        }),
+        Err(_) => Err(Fault::NoCopy),
+    }
+}
+
 // The folder above, or above that, which is that of a working copy.
 fn find_above<T: Files + AllocGlobal>(rt: &T, word: &str) -> Result<Folder, Fault> {
-    let here = match fs::canonicalize(rt, word) {
-        Ok(here) => here,
-        Err(error) => return Err(Fault::Unread(error)),
-    };
     let alloc = rt.alloc();
+    let here = canonical(rt, word)?;
     let mut root = PathBuf::from_str(alloc, here.as_str())?;
     for _ in 0..here.as_str().len() {
         if !root.pop() {
             break;
         }
         if has_database(rt, &root)? {
-            let below = match here.strip_prefix(&root) {
-                Ok(below) => path_below(alloc, below.as_str())?,
-                Err(_) => return Err(Fault::NoCopy),
-            };
-            return Ok(Folder { root, below });
+            return folder_of(alloc, root, &here);
         }
     }
     Err(Fault::NoCopy)

@@ -66,17 +66,34 @@ struct Place<'a> {
     files: &'a [&'a str],
 }
 
+impl Place<'_> {
+    // Where it is in the system.
+    fn directory(&self, alloc: Global) -> Result<PathBuf, Fault> {
+        let path = format!(in alloc; "{}", self.path)?;
+        self.folder.working_file(alloc, &path)
+    }
+}
+
+// Whether what has this name in a directory is a working copy of its own.
+fn is_nested<T: Files + AllocGlobal>(
+    rt: &T,
+    place: &Place<'_>,
+    directory: &PathBuf,
+    name: &str,
+) -> Result<bool, Fault> {
+    Ok(
+        place.files.binary_search(&name).is_err()
+            && is_copy(rt, &directory.join(rt.alloc(), name)?)?,
+    )
+}
+
 // Adds the folders in a directory that are working copies of their own.
 fn add_nested_in<T: Files + AllocGlobal + Clone + Drop>(
     rt: &T,
     place: &Place<'_>,
     nested: &mut Several,
 ) -> Result<(), Fault> {
-    let alloc = rt.alloc();
-    let path = place.path;
-    let directory = place
-        .folder
-        .working_file(alloc, &format!(in alloc; "{path}")?)?;
+    let directory = place.directory(rt.alloc())?;
     let Some(entries) = or_none(fs::read_dir(rt, &directory))? else {
         return Ok(());
     };
@@ -85,11 +102,9 @@ fn add_nested_in<T: Files + AllocGlobal + Clone + Drop>(
             return Ok(());
         };
         let name = entry.file_name();
-        if place.files.binary_search(&name).is_err()
-            && is_copy(rt, &directory.join(alloc, name)?)?
-        {
-            let place = format!(in alloc; "{path}/{name}")?;
-            nested.add(place.trim_start_matches("./"))?;
+        if is_nested(rt, place, &directory, name)? {
+            let path = format!(in rt.alloc(); "{}/{name}", place.path)?;
+            nested.add(path.trim_start_matches("./"))?;
         }
     }
     Ok(())

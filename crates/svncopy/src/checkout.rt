@@ -5,7 +5,7 @@ use crate::command_line;
 use crate::dump::{DumpSource, History, open};
 use crate::fault::Fault;
 use crate::progress::Progress;
-use crate::url::address_of;
+use crate::url::{Address, address_of};
 use crate::writing::folder_to_write;
 use std::alloc::Global;
 use std::fs;
@@ -64,29 +64,50 @@ fn tell<T: Files<File = File> + Threads + Locks + Print + AllocGlobal>(
     Ok(())
 }
 
-/// Makes a working copy, and says of which revision it is; or says what would be made.
-pub(crate) fn make<
-    T: Files<File = File>
-        + Threads
-        + Locks
-        + FileMaker
-        + Input
-        + Print
-        + Eprint
-        + Clock
-        + AllocGlobal,
->(rt: &T, words: &command_line::Checkout<'_>) -> Result<(), Fault> {
+/// A copy that is to be made, with its history and its texts.
+#[derive(Drop)]
+struct Planned {
+    history: History,
+    texts: File,
+    copy: WorkingCopy,
+    rev: Rev,
+}
+
+// Reads the history, and what of it the copy has.
+fn plan<T: Files<File = File> + Input + Eprint + Clock + AllocGlobal>(
+    rt: &T,
+    words: &command_line::Checkout<'_>,
+    address: &Address<'_>,
+) -> Result<Planned, Fault> {
     let alloc = rt.alloc();
-    let address = address_of(alloc, words)?;
     let dump = open(rt, words.dump, words.folder)?;
     let mut progress = Progress::begin(rt, words.progress);
     let (history, texts) = dump.load(alloc, &mut progress)?;
     let rev = address.rev.unwrap_or(history.repo.latest());
     let copy = copy_of(alloc, &history, &address.path, rev)?;
     refuse_reserved(&copy)?;
-    if words.dry_run {
-        return tell(rt, words.folder, &copy);
-    }
+    Ok(Planned {
+        history,
+        texts,
+        copy,
+        rev,
+    })
+}
+
+// Makes the copy in its folder.
+fn write<T: Files<File = File> + Threads + Locks + FileMaker + Clock + AllocGlobal>(
+    rt: &T,
+    words: &command_line::Checkout<'_>,
+    address: &Address<'_>,
+    planned: Planned,
+) -> Result<(), Fault> {
+    let alloc = rt.alloc();
+    let Planned {
+        history,
+        texts,
+        copy,
+        rev,
+    } = planned;
     let inherited = inherited_props(alloc, &history.repo, rev, &address.path)?;
     make_folder(rt, words.folder)?;
     let mut folder = folder_to_write(rt, words.folder, !words.no_sync)?;
@@ -102,12 +123,30 @@ pub(crate) fn make<
         time,
         sync: !words.no_sync,
     };
-    check_out(
-        alloc,
-        &mut folder,
-        &mut DumpSource::new(&history, texts),
-        &what,
-    )?;
+    let mut source = DumpSource::new(&history, texts);
+    check_out(alloc, &mut folder, &mut source, &what)?;
+    Ok(())
+}
+
+/// Makes a working copy, and says of which revision it is; or says what would be made.
+pub(crate) fn make<
+    T: Files<File = File>
+        + Threads
+        + Locks
+        + FileMaker
+        + Input
+        + Print
+        + Eprint
+        + Clock
+        + AllocGlobal,
+>(rt: &T, words: &command_line::Checkout<'_>) -> Result<(), Fault> {
+    let address = address_of(rt.alloc(), words)?;
+    let planned = plan(rt, words, &address)?;
+    if words.dry_run {
+        return tell(rt, words.folder, &planned.copy);
+    }
+    let rev = planned.rev;
+    write(rt, words, &address, planned)?;
     match println!(rt; "Checked out revision {}.", rev.0) {
         Ok(()) => Ok(()),
         Err(_) => Err(Fault::Write),

@@ -17,7 +17,7 @@ Status 2: an argument, the dump or a folder was refused, or the system failed.
 Example: svnadmin dump -q repo | svncopy checkout - svn://h/repo/trunk@12 wc --root svn://h/repo";
 
 /// `checkout DUMP URL[@REV] WC`: make a working copy.
-#[derive(Clone, Copy, Debug)]
+#[derive(Clone, Copy)]
 pub(crate) struct Checkout<'a> {
     /// The dump, `-` for standard input.
     pub(crate) dump: &'a str,
@@ -36,7 +36,7 @@ pub(crate) struct Checkout<'a> {
 }
 
 /// `mend DUMP WC..`: put right what isn't true.
-#[derive(Debug, Drop)]
+#[derive(Drop)]
 pub(crate) struct Mend<'a> {
     /// The dump, `-` for standard input.
     pub(crate) dump: &'a str,
@@ -51,7 +51,7 @@ pub(crate) struct Mend<'a> {
 }
 
 /// `resume WC..`: complete what was cut off.
-#[derive(Debug, Drop)]
+#[derive(Drop)]
 pub(crate) struct Resume<'a> {
     /// The folders.
     pub(crate) folders: Vec<&'a str>,
@@ -60,7 +60,7 @@ pub(crate) struct Resume<'a> {
 }
 
 /// `update DUMP WC [REV]`: bring a working copy, or a path of one, to a revision.
-#[derive(Clone, Copy, Debug)]
+#[derive(Clone, Copy)]
 pub(crate) struct UpdateWords<'a> {
     /// The dump, `-` for standard input.
     pub(crate) dump: &'a str,
@@ -81,7 +81,7 @@ pub(crate) struct UpdateWords<'a> {
 }
 
 /// `switch DUMP WC URL [REV]`: bring a working copy, or a path of one, to another path of the repository.
-#[derive(Clone, Copy, Debug)]
+#[derive(Clone, Copy)]
 pub(crate) struct Switch<'a> {
     /// The URL, or `^/` and the path in the repository; with a revision after `@` if one is given.
     pub(crate) url: &'a str,
@@ -90,7 +90,7 @@ pub(crate) struct Switch<'a> {
 }
 
 /// What is asked for.
-#[derive(Debug, Drop)]
+#[derive(Drop)]
 pub(crate) enum Request<'a> {
     Checkout(Checkout<'a>),
     Mend(Mend<'a>),

@@ -7,7 +7,7 @@ use std::alloc::Global;
 use svn_types::{PathBytesFault, PathFault, RelPath, Rev};
 
 /// What a checkout is of.
-#[derive(Debug, Drop)]
+#[derive(Drop)]
 pub(crate) struct Address<'a> {
     /// The URL of the repository's root.
     pub(crate) root: &'a str,

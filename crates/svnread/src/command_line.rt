@@ -21,7 +21,7 @@ As a tunnel of the stock client, in ~/.subversion/config:
 and then: svn checkout svn+read://any/trunk";
 
 /// What is asked for.
-#[derive(Clone, Copy, Debug)]
+#[derive(Clone, Copy)]
 pub(crate) struct Request<'a> {
     /// The dump.
     pub(crate) dump: &'a str,

@@ -48,7 +48,7 @@ pub(crate) const TEXTS: [&str; 16] = [
 pub(crate) type Stopping = SyncedFolder<StoppedFolder<MemoryFolder>>;
 
 /// Texts, of which one is begun.
-#[derive(Clone, Copy, Debug)]
+#[derive(Clone, Copy)]
 pub(crate) struct Known {
     texts: &'static [&'static str],
     begun: Option<&'static [u8]>,

@@ -77,6 +77,16 @@ fn try_edit<R: Print + AllocGlobal>(rt: &R, all: &Falsehood, row: &Edit) -> Resu
     Ok(())
 }
 
+fn print_said<R: Print + AllocGlobal>(
+    rt: &R,
+    words: &str,
+    folder: &mut Left,
+    what: &Remedy<'_>,
+) -> Result<()> {
+    println!(rt; "{words}: {}", said(rt.alloc(), folder, what)?)?;
+    Ok(())
+}
+
 // By another repository, and of a copy that is true.
 fn try_others<R: Print + AllocGlobal>(rt: &R, all: &Falsehood) -> Result<()> {
     let alloc = rt.alloc();
@@ -85,13 +95,9 @@ fn try_others<R: Print + AllocGlobal>(rt: &R, all: &Falsehood) -> Result<()> {
         uuid: b"another",
         ..what(&all.repo)
     };
-    println!(rt; "mend by another: {}", said(alloc, &mut folder, &other)?)?;
-    println!(rt; "mend: {}", said(alloc, &mut folder, &what(&all.repo))?)?;
-    println!(rt;
-        "mend again: {}",
-        said(alloc, &mut folder, &what(&all.repo))?
-    )?;
-    Ok(())
+    print_said(rt, "mend by another", &mut folder, &other)?;
+    print_said(rt, "mend", &mut folder, &what(&all.repo))?;
+    print_said(rt, "mend again", &mut folder, &what(&all.repo))
 }
 
 // What would be done.

@@ -27,7 +27,7 @@ pub(crate) struct Advance {
 }
 
 /// What is asked for in a row.
-#[derive(Clone, Copy, Debug)]
+#[derive(Clone, Copy)]
 pub(crate) struct Wish<'a> {
     /// The path in the copy.
     pub(crate) path: &'a RelPath,

@@ -126,12 +126,28 @@ fn switch(
     alloc: Global,
     repo: &Repo,
     copy: &mut WorkingCopy,
-    at: &RelPath,
+    at: &str,
     to: &str,
     rev: u64,
 ) -> Result<(), Fail> {
-    let to = path_at(alloc, to)?;
-    Ok(copy.switch(repo, at, &to, Rev(rev))?)
+    let (at, to) = (path_at(alloc, at)?, path_at(alloc, to)?);
+    Ok(copy.switch(repo, &at, &to, Rev(rev))?)
+}
+
+fn place(
+    alloc: Global,
+    repo: &Repo,
+    copy: &mut WorkingCopy,
+    path: &str,
+    rev: u64,
+) -> Result<(), Fail> {
+    let path = path_at(alloc, path)?;
+    Ok(copy.place(repo, &path, Rev(rev))?)
+}
+
+fn forget(alloc: Global, copy: &mut WorkingCopy, path: &str) -> Result<(), Fail> {
+    let path = path_at(alloc, path)?;
+    Ok(copy.forget(&path)?)
 }
 
 fn change_copy(
@@ -142,9 +158,9 @@ fn change_copy(
 ) -> Result<(), Fail> {
     match step {
         Build::Checkout(root, rev) => checkout(alloc, repo, copy, root, rev),
-        Build::Place(path, rev) => Ok(copy.place(repo, &path_at(alloc, path)?, Rev(rev))?),
-        Build::Switch(path, to, rev) => switch(alloc, repo, copy, &path_at(alloc, path)?, to, rev),
-        Build::Forget(path) => Ok(copy.forget(&path_at(alloc, path)?)?),
+        Build::Place(path, rev) => place(alloc, repo, copy, path, rev),
+        Build::Switch(path, to, rev) => switch(alloc, repo, copy, path, to, rev),
+        Build::Forget(path) => forget(alloc, copy, path),
     }
 }
 

@@ -9,6 +9,7 @@ use std::test::Fail;
 use std::thread::Threads;
 use svn_repo::Repo;
 use svn_run::{Cause, Outcome};
+use svn_wc::WorkingCopy;
 
 fn stopped_after(calls: u64) -> Answer {
     Ok(Outcome::Aborted {
@@ -108,6 +109,22 @@ fn whole_runs_end_at_the_target(rt: HostRuntime) -> Result<(), Fail> {
     Ok(())
 }
 
+// Whether the same run, not stopped, is closed.
+fn closes_again<R: Threads + Wait + Sync>(
+    rt: &R,
+    alloc: Global,
+    repo: &Repo,
+    copy: &mut WorkingCopy,
+    request: &Request,
+) -> Result<bool, Fail> {
+    let again = Request {
+        cancel_after: None,
+        ..*request
+    };
+    let ended = run(rt, alloc, repo, copy, &again)?;
+    Ok(matches!(ended, Ok(Outcome::Closed { .. })))
+}
+
 // Writes how a run is stopped, whether that leaves a true copy, whether the same run made again is closed, and what the copy has then.
 fn resumed<R: Threads + Wait + Sync>(
     rt: &R,
@@ -119,12 +136,7 @@ fn resumed<R: Threads + Wait + Sync>(
     let mut copy = copy_of(alloc, repo, row.copy)?;
     let stopped = run(rt, alloc, repo, &mut copy, request)?;
     let is_true = copy.check_true(repo).is_ok();
-    let again = Request {
-        cancel_after: None,
-        ..*request
-    };
-    let ended = run(rt, alloc, repo, &mut copy, &again)?;
-    let is_closed = matches!(ended, Ok(Outcome::Closed { .. }));
+    let is_closed = closes_again(rt, alloc, repo, &mut copy, request)?;
     Ok(format!(in alloc; "{stopped:?}\n{is_true} {is_closed}\n{copy}")?)
 }
 

@@ -55,9 +55,27 @@ enum Made {
     WithASwitch,
 }
 
+// Places a path of revision 1.
+fn place(alloc: Global, repo: &Repo, copy: &mut WorkingCopy, path: &str) -> Result<(), Fail> {
+    let path = RelPath::parse(alloc, path)?;
+    Ok(copy.place(repo, &path, Rev(1))?)
+}
+
+// Switches a path to one of revision 1.
+fn switch(
+    alloc: Global,
+    repo: &Repo,
+    copy: &mut WorkingCopy,
+    at: &str,
+    from: &RelPath,
+) -> Result<(), Fail> {
+    let at = RelPath::parse(alloc, at)?;
+    Ok(copy.switch(repo, &at, from, Rev(1))?)
+}
+
 fn placed(alloc: Global, repo: &Repo) -> Result<WorkingCopy, Fail> {
     let mut copy = WorkingCopy::checkout(alloc, repo, Rev(2))?;
-    copy.place(repo, &RelPath::parse(alloc, "f")?, Rev(1))?;
+    place(alloc, repo, &mut copy, "f")?;
     Ok(copy)
 }
 
@@ -70,8 +88,7 @@ fn listed(alloc: Global) -> Result<WorkingCopy, Fail> {
 
 fn switched(alloc: Global, repo: &Repo) -> Result<WorkingCopy, Fail> {
     let mut copy = placed(alloc, repo)?;
-    let (at, from) = (RelPath::parse(alloc, "g")?, RelPath::parse(alloc, "f")?);
-    copy.switch(repo, &at, &from, Rev(1))?;
+    switch(alloc, repo, &mut copy, "g", &RelPath::parse(alloc, "f")?)?;
     Ok(copy)
 }
 
@@ -138,13 +155,16 @@ fn reports_the_same_after_what_it_learned(rt: HostRuntime) -> Result<(), Fail> {
     Ok(())
 }
 
+fn shown_empty(alloc: Global) -> Result<String, Fail> {
+    let repo = Repo::new(alloc)?;
+    let copy = WorkingCopy::checkout(alloc, &repo, Rev(0))?;
+    Ok(format!(in alloc; "{copy:?}")?)
+}
+
 // As if it were derived on the allocator and the nodes.
 #[test]
 fn shows_its_nodes(rt: HostRuntime) -> Result<(), Fail> {
-    let alloc = rt.alloc();
-    let repo = Repo::new(alloc)?;
-    let copy = WorkingCopy::checkout(alloc, &repo, Rev(0))?;
-    let found = format!(in alloc; "{copy:?}")?;
+    let found = shown_empty(rt.alloc())?;
     assert_eq!(rt;
         found.as_str(),
         "WorkingCopy { alloc: Global, nodes: {[]: Dir { rev: Rev(0), repos_path: [], complete: true, props: Props { map: {} } }} }",
@@ -169,15 +189,25 @@ fn push_directory(alloc: Global, names: usize, changes: &mut Vec<Change>) -> Res
     Ok(())
 }
 
-// A chain of 17 directories, with a file in the last.
-fn deep_repo(alloc: Global, text: &str) -> Result<Repo, Fail> {
-    let mut repo = Repo::new(alloc)?;
+fn deep_file(alloc: Global, text: &str) -> Result<Change, Fail> {
+    let mut path = chain(alloc, 17)?;
+    path.push_str("/f")?;
+    put(alloc, &path, text)
+}
+
+fn deep_changes(alloc: Global, text: &str) -> Result<Vec<Change>, Fail> {
     let mut changes = Vec::new(alloc);
     for names in 1..18usize {
         push_directory(alloc, names, &mut changes)?;
     }
-    changes.push(put(alloc, &format!(in alloc; "{}/f", chain(alloc, 17)?)?, text)?)?;
-    repo.commit(&changes)?;
+    changes.push(deep_file(alloc, text)?)?;
+    Ok(changes)
+}
+
+// A chain of 17 directories, with a file in the last.
+fn deep_repo(alloc: Global, text: &str) -> Result<Repo, Fail> {
+    let mut repo = Repo::new(alloc)?;
+    repo.commit(&deep_changes(alloc, text)?)?;
     Ok(repo)
 }
 
@@ -185,8 +215,8 @@ fn deep_repo(alloc: Global, text: &str) -> Result<Repo, Fail> {
 fn deep_copy(alloc: Global, repo: &Repo) -> Result<WorkingCopy, Fail> {
     let root = RelPath::parse(alloc, &chain(alloc, 17)?)?;
     let mut copy = WorkingCopy::checkout_at(alloc, repo, &root, Rev(1))?;
-    copy.place(repo, &RelPath::parse(alloc, "f")?, Rev(1))?;
-    copy.switch(repo, &RelPath::parse(alloc, "g")?, &root, Rev(1))?;
+    place(alloc, repo, &mut copy, "f")?;
+    switch(alloc, repo, &mut copy, "g", &root)?;
     Ok(copy)
 }
 
