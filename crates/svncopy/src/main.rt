@@ -9,6 +9,7 @@ mod dump;
 mod expansion;
 mod fault;
 mod lines;
+mod loading;
 mod mend;
 mod progress;
 mod refusing;
@@ -21,6 +22,7 @@ mod writing;
 use crate::checkout::make;
 use crate::command_line::{Request, Resume, UpdateWords, request_of};
 use crate::fault::Fault;
+use crate::loading::LoadBeside;
 use crate::mend::mend_all;
 use crate::refusing::{REFUSED, refuse};
 use crate::resume::complete;
@@ -78,6 +80,7 @@ fn answer<
         + Threads
         + Locks
         + FileMaker
+        + LoadBeside
         + Wait
         + Sync
         + Input
@@ -110,6 +113,7 @@ fn run<
         + Threads
         + Locks
         + FileMaker
+        + LoadBeside
         + Wait
         + Sync
         + Input

@@ -2,10 +2,10 @@
 
 use crate::clock::now;
 use crate::command_line::{Switch, UpdateWords};
-use crate::dump::{DumpSource, History, open};
+use crate::dump::{DumpSource, History};
 use crate::fault::Fault;
 use crate::lines::{print_all, print_header};
-use crate::progress::Progress;
+use crate::loading::{Load, LoadBeside};
 use crate::root::Root;
 use crate::url::switched_to;
 use crate::writing::folder_to_write;
@@ -46,15 +46,26 @@ fn folder_of<'a, T: Files<File = File> + Threads + Locks + AllocGlobal>(
     Ok(DiskFolder::new(rt, path))
 }
 
-// The copy that a word names, or that has what it names.
-fn read<T: Files<File = File> + Threads + Locks + AllocGlobal>(
+// The copy that a word names, or that has what it names, and the history of the dump.
+fn read<T: Files<File = File> + Threads + Locks + LoadBeside + AllocGlobal>(
     rt: &T,
-    word: &str,
-) -> Result<OnDisk, Fault> {
-    let root = Root::find(rt, word)?;
+    words: &UpdateWords<'_>,
+) -> Result<(OnDisk, History, File), Fault> {
+    let alloc = rt.alloc();
+    let root = Root::find(rt, words.folder)?;
     let folder = folder_of(rt, &root)?;
-    let existing = Existing::read(rt.alloc(), &folder)?;
-    Ok(OnDisk { root, existing })
+    let what = Load {
+        dump: String::from_str(alloc, words.dump)?,
+        beside: root.folder.clone()?,
+        progress: words.progress,
+    };
+    let loading = rt.begin_load(rt, what);
+    let existing = Existing::read(alloc, &folder);
+    let loaded = loading.end(rt);
+    // what is to say of the copy is said first
+    let existing = existing?;
+    let (history, texts) = loaded?;
+    Ok((OnDisk { root, existing }, history, texts))
 }
 
 // Updates or switches the copy as it was read, or says what that would do.
@@ -89,42 +100,21 @@ fn bring<
     Ok(update(rt, alloc, &mut folder, &mut source, &what)?)
 }
 
-// Reads the dump, and brings the copy to its target.
-fn go<
-    T: Files<File = File>
-        + Threads
-        + Locks
-        + FileMaker
-        + Wait
-        + Sync
-        + Input
-        + Print
-        + Eprint
-        + Clock
-        + AllocGlobal,
->(rt: &T, copy: &OnDisk, words: &UpdateWords<'_>, to: Option<&RelPath>) -> Result<Updated, Fault> {
-    let dump = open(rt, words.dump, copy.root.folder.as_str())?;
-    let mut progress = Progress::begin(rt, words.progress);
-    let (history, texts) = dump.load(rt.alloc(), &mut progress)?;
-    bring(rt, copy, words, to, &history, texts)
-}
-
 /// Updates a copy, or a path of one, and prints the lines of `svn update`.
 pub(crate) fn update_copy<
     T: Files<File = File>
         + Threads
         + Locks
         + FileMaker
+        + LoadBeside
         + Wait
         + Sync
-        + Input
         + Print
-        + Eprint
         + Clock
         + AllocGlobal,
 >(rt: &T, words: &UpdateWords<'_>) -> Result<(), Fault> {
-    let copy = read(rt, words.folder)?;
-    let updated = go(rt, &copy, words, None)?;
+    let (copy, history, texts) = read(rt, words)?;
+    let updated = bring(rt, &copy, words, None, &history, texts)?;
     print_header(rt, words.folder)?;
     print_all(rt, words, &updated)
 }
@@ -135,21 +125,20 @@ pub(crate) fn switch_copy<
         + Threads
         + Locks
         + FileMaker
+        + LoadBeside
         + Wait
         + Sync
-        + Input
         + Print
-        + Eprint
         + Clock
         + AllocGlobal,
 >(rt: &T, words: &Switch<'_>) -> Result<(), Fault> {
-    let copy = read(rt, words.how.folder)?;
+    let (copy, history, texts) = read(rt, &words.how)?;
     let root = copy.existing.origin().url.as_slice();
     let (to, rev) = switched_to(rt.alloc(), words.url, root)?;
     let how = UpdateWords {
         rev: words.how.rev.or(rev),
         ..words.how
     };
-    let updated = go(rt, &copy, &how, Some(&to))?;
+    let updated = bring(rt, &copy, &how, Some(&to), &history, texts)?;
     print_all(rt, &how, &updated)
 }
