@@ -64,7 +64,7 @@ fn tell<T: Files<File = File> + Threads + Locks + Print + AllocGlobal>(
     Ok(())
 }
 
-/// A copy that is to be made, with its history and its texts.
+/// A copy that comes, with its history and its texts.
 #[derive(Drop)]
 struct Planned {
     history: History,
