@@ -1,4 +1,4 @@
-//! Folders (`folders.rt`), and working copies that are brought to disk: each stop of a checkout and of its completion, by the program's end and by a loss of
+//! Folders (`test_folder.rt`), and working copies that are brought to disk: each stop of a checkout and of its completion, by the program's end and by a loss of
 //! power; each stop of a false copy's being put right, and of an update; what the folder has at the end; what is refused; clients that write meanwhile. The
 //! folder of a copy is one in memory, whose crashes are those of `svn_folder`.
 #![tactic(auto)]
@@ -6,7 +6,6 @@
 mod between;
 mod clients;
 mod copies;
-mod folders;
 mod histories;
 mod mend_refusals;
 mod mends;
@@ -14,13 +13,13 @@ mod opaque;
 mod refusals;
 mod replay;
 mod stops;
+mod test_folder;
 mod update_rows;
 mod updates;
 
 use anyhow::Result;
 use clients::try_clients;
 use copies::{copy, empty, inner, make};
-use folders::try_folders;
 use mend_refusals::try_mend_refusals;
 use mends::{Falsehood, try_lost_mends, try_stopped_mends};
 use refusals::try_refusals;
@@ -33,6 +32,7 @@ use std::thread::Threads;
 use stops::{try_losses, try_resumes, try_stops};
 use svn_folder::{FileMaker, Locks, MemoryFolder};
 use svn_wc::WorkingCopy;
+use test_folder::try_folders;
 use update_rows::try_rows;
 use updates::{Advance, try_limits, try_lost_updates, try_stopped_updates};
 

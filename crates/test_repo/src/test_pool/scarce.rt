@@ -1,6 +1,8 @@
 // Heaps that run out: a refused call changes nothing, and gives its result once there is memory.
-use crate::pools::call::{Answer, Call, answer_of, counts, is_wanted, run};
-use crate::pools::rows::{BRANCH, EXHAUSTED, HALVES, HALVES_AND_EMPTY, LENGTHS, LONG_AND_SHORT};
+use crate::test_pool::call::{Answer, Call, answer_of, counts, is_wanted, run};
+use crate::test_pool::rows::{
+    BRANCH, EXHAUSTED, HALVES, HALVES_AND_EMPTY, LENGTHS, LONG_AND_SHORT,
+};
 use linked_list_allocator::LocalHeap;
 use std::alloc::{AllocError, Global};
 use std::process::Abort;

@@ -1,6 +1,6 @@
 // All trees of four pools below the root, emptied in all orders, beside the plain model.
-use crate::pools::call::{Answer, count, counts, get};
-use crate::pools::model::{POOLS, Plain, clear, destroy, is_live, planted};
+use crate::test_pool::call::{Answer, count, counts, get};
+use crate::test_pool::model::{POOLS, Plain, clear, destroy, is_live, planted};
 use std::alloc::Global;
 use std::test::Fail;
 use svn_pool::{PoolFault, PoolId, PoolTree};

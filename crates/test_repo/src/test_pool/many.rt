@@ -1,7 +1,7 @@
 // More blocks than the first arena of a tree is for, with strings beside their blocks and in them.
-use crate::pools::call::Answer::{Counted, Done, Place, Serial, Text};
-use crate::pools::call::Call::{Clear, Counts, Create, Get, Push};
-use crate::pools::call::{Answer, Call, run};
+use crate::test_pool::call::Answer::{Counted, Done, Place, Serial, Text};
+use crate::test_pool::call::Call::{Clear, Counts, Create, Get, Push};
+use crate::test_pool::call::{Answer, Call, run};
 use linked_list_allocator::LocalHeap;
 use std::alloc::{AllocError, Allocator, Global};
 use std::process::Abort;

@@ -1,9 +1,11 @@
 // The worked rows.
-use crate::pools::call::Answer::{
+use crate::test_pool::call::Answer::{
     Counted, Done, Fault, Nothing, Number, Place, Read, Serial, Text,
 };
-use crate::pools::call::Call::{Clear, Count, Counts, Create, Destroy, Get, Push, Root, Strings};
-use crate::pools::call::{Answer, Call};
+use crate::test_pool::call::Call::{
+    Clear, Count, Counts, Create, Destroy, Get, Push, Root, Strings,
+};
+use crate::test_pool::call::{Answer, Call};
 use svn_pool::PoolFault::{Full, Gone, IsRoot, Memory, TooLong};
 
 // A chain of three pools with a string each. The uppermost is cleared, and gets a child that takes a spare block.

@@ -1,5 +1,5 @@
 //! Tests of what is below the working copies: of names, paths, properties and texts; of the map from names; of pools and of the map from rising numbers
-//! (`pools`); and of commits and transactions: what is there after them, which are refused, and how long and deep things may be.
+//! (`test_pool`); and of commits and transactions: what is there after them, which are refused, and how long and deep things may be.
 #![tactic(auto)]
 
 #[cfg(test)]
@@ -21,8 +21,6 @@ mod parts;
 #[cfg(test)]
 mod paths;
 #[cfg(test)]
-mod pools;
-#[cfg(test)]
 mod properties;
 #[cfg(test)]
 mod questions;
@@ -32,6 +30,8 @@ mod refusals;
 mod steps;
 #[cfg(test)]
 mod tails;
+#[cfg(test)]
+mod test_pool;
 #[cfg(test)]
 mod texts;
 #[cfg(test)]

@@ -1,7 +1,7 @@
 //! Files in pieces, copies of files, and several syncs at once.
 
-use crate::folders::tables::{Act, Deed, MANY, deeds, step_of};
-use crate::folders::{compare, left_words};
+use crate::test_folder::tables::{Act, Deed, MANY, deeds, step_of};
+use crate::test_folder::{compare, left_words};
 use anyhow::{Result, bail};
 use std::alloc::Global;
 use svn_folder::{

@@ -1,6 +1,6 @@
 // The rows with ample memory.
-use crate::pools::call::{Answer, Call, run};
-use crate::pools::rows::{
+use crate::test_pool::call::{Answer, Call, run};
+use crate::test_pool::rows::{
     BRANCH, HALVES, HALVES_AND_EMPTY, LAST_SERIAL, LENGTHS, LONG_AND_SHORT, ONE_BEHIND_THE_OTHER,
     REFUSALS,
 };

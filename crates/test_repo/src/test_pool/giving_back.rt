@@ -1,6 +1,6 @@
 // Each block goes back to the heap, as the free bytes of a heap of limited size show.
-use crate::pools::call::{Answer, Call, run};
-use crate::pools::rows::{BRANCH, HALVES, HALVES_AND_EMPTY, LENGTHS, LONG_AND_SHORT};
+use crate::test_pool::call::{Answer, Call, run};
+use crate::test_pool::rows::{BRANCH, HALVES, HALVES_AND_EMPTY, LENGTHS, LONG_AND_SHORT};
 use linked_list_allocator::LocalHeap;
 use std::alloc::{AllocError, Global};
 use std::process::Abort;

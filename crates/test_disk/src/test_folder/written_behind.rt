@@ -1,7 +1,7 @@
 //! Files that are written later, on disk (`WriteBehind`).
 
-use crate::folders::several::{copy, make_in_pieces};
-use crate::folders::{behind, do_all, take_all, tried_again, words_at};
+use crate::test_folder::several::{copy, make_in_pieces};
+use crate::test_folder::{behind, do_all, take_all, tried_again, words_at};
 use anyhow::{Result, bail};
 use std::alloc::Global;
 use std::fs::File;
