@@ -31,7 +31,7 @@ pub(crate) enum Loading {
 }
 
 // Opens a dump, and loads it.
-fn load<T: Files<File = File> + Input + Eprint + Clock + AllocGlobal>(
+fn load_dump<T: Files<File = File> + Input + Eprint + Clock + AllocGlobal>(
     rt: &T,
     what: &Load,
 ) -> Loaded {
@@ -59,7 +59,7 @@ pub(crate) trait LoadBeside {
 impl LoadBeside for HostRuntime {
     fn begin_load<R: Threads>(&self, threads: &R, what: Load) -> Loading {
         let system = *self;
-        match thread::spawn(threads, move || load(&system, &what)) {
+        match thread::spawn(threads, move || load_dump(&system, &what)) {
             Ok(thread) => Loading::Running(thread),
             Err(refused) => Loading::Ended((refused.value)()),
         }

@@ -17,7 +17,7 @@ const JOURNAL: &str = ".svn/wc.db-journal";
 const CHANGE_COUNTER: usize = 27;
 
 /// What the client does.
-#[derive(Clone, Copy, PartialEq, Eq)]
+#[derive(Clone, Copy, Debug, PartialEq, Eq)]
 enum Act {
     Locks,
     Begins,
