@@ -3,6 +3,7 @@
 
 usage: sweep/run.py PROGRAM [ROW..]
        sweep/run.py --svnup PROGRAM
+       sweep/run.py --svnread PROGRAM
 
 PROGRAM is the built program, crates/test_sweep/out/test_sweep (`rt run` in crates/test_sweep builds it). For each row and way, for N = 1, 2, ..
 until a run asks for fewer, the N-th allocation is refused, and the row must hold all the same; then all from the N-th on are refused,
@@ -14,6 +15,9 @@ memory, the driver must learn that in time, unless it has made all its calls; bo
 
 With --svnup it is the program crates/svnup/out/svnup, and what is swept are its words, the reading of a short script and its printing: it
 prints what it does with ample memory, or that it is out of memory, with status 1, or the command that needed memory is refused.
+
+With --svnread it is the program crates/svnread/out/svnread, and what is swept are the recorded sessions of test_served: what it writes is what it does
+with ample memory, or a front of that, and it says that it is out of memory, with status 1.
 """
 import os, re, subprocess, sys, tempfile
 from collections import Counter
@@ -100,33 +104,63 @@ WORDS = [[], ["--in-turn"], ["--capacity", "1"], ["--capacity=4096", "--in-turn"
 WANTING = [(1, "svnup: out of memory\n"), (0, "refused Memory\n")]
 
 
+def is_wanted(ran, ample):
+    """Whether svnup does what it does with ample memory, or says out of memory."""
+    return ran in [ample, *WANTING]
+
+
 def sweep_words(program, library, words):
-    """The same of svnup's words: every result is that with ample memory, or says out of memory."""
-    given, wrong, ended, n = b"commit\n", [], 0, 1
-    name = " ".join(["svnup", *words])
+    """The same of svnup's words."""
+    return sweep_given(" ".join(["svnup", *words]), [program, library, words, b"commit\n"], is_wanted)
+
+
+# Sessions that svnread serves: those of test_served, out of its dump.
+SERVED = f"{HERE}/../crates/test_served/data"
+SERVES = ["--dump", f"{SERVED}/history.dump", "--root", "repo"]
+
+
+def is_served(ran, ample):
+    """Whether svnread writes what it does with ample memory, or a front of that, and says out of memory."""
+    front, _, why = ran[1].partition("svnread: ")
+    return ran == ample or ran[0] == 1 and ample[1].startswith(front) and why.endswith("out of memory\n")
+
+
+def sweep_session(program, library, name):
+    """The same of a session that svnread serves."""
+    with open(f"{SERVED}/{name}", "rb") as file:
+        return sweep_given(name, [program, library, SERVES, file.read()], is_served)
+
+
+def sweep_given(name, how, is_right):
+    """The same of a program that is given words and bytes: program, library, words and bytes are what runs it, and what it does must be right beside
+    what it does with ample memory."""
+    program, library, words, given = how
+    wrong, ended, n = [], 0, 1
     ample = run(program, words, library, "0", given)[:2]
     while True:
         status, wrote, count = run(program, words, library, str(n), given)
-        if (status, wrote) not in [ample, *WANTING] or count < n and (status, wrote) != ample:
+        if not is_right((status, wrote), ample) or count < n and (status, wrote) != ample:
             wrong.append(f"{name}, allocation {n}: status {status}, {wrote!r}")
         if count < n or len(wrong) > 100:
             return name, n - 1, ended, wrong
         status, wrote, _ = run(program, words, library, f"{n}+", given)
         ended += status == 1
-        if (status, wrote) not in [ample, *WANTING]:
+        if not is_right((status, wrote), ample):
             wrong.append(f"{name}, all allocations from {n} on: status {status}, {wrote!r}")
         n += 1
 
 
 def main():
-    of_words = sys.argv[1:2] == ["--svnup"]
-    if of_words:
+    of_words, of_sessions = (sys.argv[1:2] == [it] for it in ("--svnup", "--svnread"))
+    if of_words or of_sessions:
         del sys.argv[1]
     # the words before the first that is no file start the program
     files = [it for it in sys.argv[1:] if os.path.sep in it or it.startswith("-")]
     program, names = files, [it for it in sys.argv[1:] if it not in files]
     if of_words:
         rows, swept = WORDS, sweep_words
+    elif of_sessions:
+        rows, swept = sorted(it for it in os.listdir(SERVED) if it.endswith(".client")), sweep_session
     else:
         listed = subprocess.run([*program, "list"], capture_output=True, text=True, check=True).stdout.splitlines()
         rows, swept = [it for it in map(str.split, listed) if it[1] not in LONG and (not names or it[0] in names)], sweep

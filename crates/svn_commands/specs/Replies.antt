@@ -7,7 +7,7 @@ use Rattle.svn_types.specs.declared.kind.Kind.TheVariants.{File, Directory}
 use Rattle.svn_wire.specs.declared.token.Token.{Token}
 use Rattle.svn_wire.specs.Fields.{text_field}
 use Rattle.svn_commands.specs.declared.commands.Command.{Command}
-use Rattle.svn_commands.specs.declared.commands.Command.TheVariants.{CheckPath, GetDatedRev, GetDir, GetFile, GetInherited, GetLatestRev, GetLocations, GetSegments, Log, RevProp, RevProps, Stat}
+use Rattle.svn_commands.specs.declared.commands.Command.TheVariants.{CheckPath, GetDatedRev, GetDir, GetInherited, GetLatestRev, GetLocations, GetSegments, Log, RevProp, RevProps, Stat}
 use Rattle.svn_commands.specs.declared.commands.Replied.{Replied}
 use Rattle.svn_commands.specs.declared.commands.Replied.TheVariants as replied
 use Rattle.svn_replies.specs.declared.fault.Refused.{Refused}
@@ -15,7 +15,7 @@ use Rattle.svn_replies.specs.declared.fault.Refused.TheVariants as refused
 use Rattle.svn_replies.specs.declared.served.Served.{Served}
 use Rattle.svn_replies.specs.declared.session.Session.{Session}
 use Rattle.svn_replies.specs.Answers.{success, no_mechanism}
-use Rattle.svn_replies.specs.Commands.{latest_answer, kind_answer, place_of, IsStat, found_of, IsFile, IsDirectory, inherited_answer, dated_answer, rev_prop_answer, rev_props_answer}
+use Rattle.svn_replies.specs.Commands.{latest_answer, kind_answer, place_of, IsStat, found_of, Tells, IsDirectory, inherited_answer, dated_answer, rev_prop_answer, rev_props_answer}
 use Rattle.svn_commands.specs.Lists.{Lists}
 use Rattle.svn_commands.specs.Log.{log_of, IsLog}
 use Rattle.svn_commands.specs.Locations.{locations_of, AreLocations, segments_of, AreSegmentsOf}
@@ -28,7 +28,6 @@ abbrev pub node_command : List ℕ → Option Command
 node_command name =
     if bytes_eq name (codes "check-path") then Some CheckPath
     else if bytes_eq name (codes "get-dir") then Some GetDir
-    else if bytes_eq name (codes "get-file") then Some GetFile
     else if bytes_eq name (codes "get-iprops") then Some GetInherited
     else if bytes_eq name (codes "stat") then Some Stat
     else None
@@ -58,7 +57,6 @@ abbrev pub IsAnswer : Served → Session → Command → List Token → List ℕ
 IsAnswer s session CheckPath fields old result new = Answers old result new (kind_answer s.repo session.at fields)
 IsAnswer s session GetDatedRev fields old result new = Answers old result new (dated_answer s.repo s.revisions fields)
 IsAnswer s session GetDir fields old result new = Says (IsDirectory s) old result new (found_of s.repo session.at Directory fields)
-IsAnswer s session GetFile fields old result new = Says (IsFile s) old result new (found_of s.repo session.at File fields)
 IsAnswer s session GetInherited fields old result new = Answers old result new (inherited_answer s.repo session.at fields)
 IsAnswer s session GetLatestRev fields old result new = Answers old result new (latest_answer s.repo)
 IsAnswer s session GetLocations fields old result new = Lists (AreLocations s) old result new (locations_of s.repo session.at fields)
@@ -75,6 +73,7 @@ answered (Err e) = Err e
 
 abbrev pub IsHere : Result Replied Refused → Type 0
 IsHere (Ok (replied.Goes path)) = ⊥
+IsHere (Ok (replied.Sends held)) = ⊥
 IsHere _ = Unit {0}
 
 -- the client stays where it is
@@ -91,8 +90,25 @@ new_place session fields = do
 
 abbrev pub Moves : Session → List Token → Result Replied Refused → List ℕ → List ℕ → Type 0
 Moves session fields (Ok replied.Stays) old new = ⊥
+Moves session fields (Ok (replied.Sends held)) old new = ⊥
 Moves session fields (Ok (replied.Goes path)) old new = (new_place session fields ≡ Ok path) × (new ≡ old ++ (no_mechanism ++ success []))
 Moves session fields (Err e) old new = Fails e (new_place session fields)
+
+-- ---- a file, whose text is sent after the answer
+
+-- the text that is sent
+abbrev pub sent_text : Result Replied Refused → Result (Option (List ℕ)) Refused
+sent_text (Ok (replied.Sends held)) = Ok (Some held)
+sent_text (Ok reply) = Ok None
+sent_text (Err e) = Err e
+
+abbrev pub IsStill : Result Replied Refused → Type 0
+IsStill (Ok (replied.Goes path)) = ⊥
+IsStill _ = Unit {0}
+
+abbrev pub SendsFile : Served → Session → List Token → Result Replied Refused → List ℕ → List ℕ → Type 0
+SendsFile s session fields result old new =
+    IsStill result × Tells s (old ++ no_mechanism) (sent_text result) new (found_of s.repo session.at File fields)
 
 -- ---- by name
 
@@ -108,4 +124,5 @@ RepliesBy s session (Some command) fields result old new = Stays s session comma
 abbrev pub Replies : Served → Session → List ℕ → List Token → Result Replied Refused → List ℕ → List ℕ → Type 0
 Replies s session name fields result old new =
     MatchBool (bytes_eq name (codes "reparent")) (Moves session fields result old new)
-    (RepliesBy s session (command_of name) fields result old new)
+    (MatchBool (bytes_eq name (codes "get-file")) (SendsFile s session fields result old new)
+    (RepliesBy s session (command_of name) fields result old new))

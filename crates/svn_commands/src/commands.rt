@@ -2,7 +2,7 @@
 ghost use Rattle.std.specs.Prelude.{◌≡◌, Some, IfOk};
 ghost use Rattle.std.specs.Option.{option_or};
 ghost use Rattle.svn_replies.specs.Refusals.{Gives, refusal_code};
-ghost use Rattle.svn_commands.specs.Replies.{node_command, revision_command, history_command, command_of, new_place, IsAnswer, Moves, Stays, Replies};
+ghost use Rattle.svn_commands.specs.Replies.{node_command, revision_command, history_command, command_of, new_place, IsAnswer, Moves, SendsFile, Stays, Replies};
 
 use crate::locations::{answer_locations, answer_segments};
 use crate::log::answer_log;
@@ -13,7 +13,7 @@ use svn_replies::{
     answer_latest, answer_rev_prop, answer_rev_props, answer_stat, code, failed, push_done,
     push_no_mechanism,
 };
-use svn_types::RelPath;
+use svn_types::{RelPath, Text};
 use svn_wire::{Token, text_field};
 
 /// What comes of a command that is answered by success.
@@ -23,9 +23,11 @@ pub enum Replied {
     Stays,
     /// It is in this directory of the repository then.
     Goes(RelPath),
+    /// It stays where it is, and is sent the text that this one stands for.
+    Sends(Text),
 }
 
-/// A command of which no report follows, and after which a client stays where it is.
+/// A command of which no report and no text follows, and after which a client stays where it is.
 #[derive(Clone, Copy, Debug, PartialEq, Eq)]
 pub enum Command {
     /// `check-path`.
@@ -34,8 +36,6 @@ pub enum Command {
     GetDatedRev,
     /// `get-dir`.
     GetDir,
-    /// `get-file`.
-    GetFile,
     /// `get-iprops`.
     GetInherited,
     /// `get-latest-rev`.
@@ -62,8 +62,6 @@ fn node_command(name: &[u8]) -> Option<Command>
         Some(Command::CheckPath)
     } else if name == b"get-dir".as_slice() {
         Some(Command::GetDir)
-    } else if name == b"get-file".as_slice() {
-        Some(Command::GetFile)
     } else if name == b"get-iprops".as_slice() {
         Some(Command::GetInherited)
     } else if name == b"stat".as_slice() {
@@ -150,6 +148,17 @@ fn reparent(view: View<'_>, fields: &[Token], out: &mut Vec<u8>) -> Result<Repli
     Ok(Replied::Goes(path))
 }
 
+// `get-file`: its text is sent after the answer.
+fn send_file(view: View<'_>, fields: &[Token], out: &mut Vec<u8>) -> Result<Replied, Refused>
+    ensures { SendsFile view.entry.served.now view.entry.session.now fields.now result out.old.items out.new.items }
+{
+    push_no_mechanism(out)?;
+    match answer_file(view, fields, out)? {
+        Some(text) => Ok(Replied::Sends(text)),
+        None => Ok(Replied::Stays),
+    }
+}
+
 fn answer(
     view: View<'_>,
     command: Command,
@@ -162,7 +171,6 @@ fn answer(
         Command::CheckPath => answer_kind(view, fields, out),
         Command::GetDatedRev => answer_dated(view, fields, out),
         Command::GetDir => answer_directory(view, fields, out),
-        Command::GetFile => answer_file(view, fields, out),
         Command::GetInherited => answer_inherited(view, fields, out),
         Command::GetLatestRev => answer_latest(view, out),
         Command::GetLocations => answer_locations(view, fields, out),
@@ -199,6 +207,9 @@ pub fn reply(
 {
     if name == b"reparent".as_slice() {
         return reparent(view, fields, out);
+    }
+    if name == b"get-file".as_slice() {
+        return send_file(view, fields, out);
     }
     match command_of(name) {
         Some(command) => stay(view, command, fields, out),

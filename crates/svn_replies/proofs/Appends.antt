@@ -9,16 +9,16 @@ three_appended old a b c after_a after_b new e f g =
     ∙ ap (λ (l : List ℕ). old ++ l) (append_assoc a b c)
 
 -- what a file is told as, piece after piece
-file_joined : (old a b c d e f g h : List ℕ) → ((((((((old ++ a) ++ b) ++ c) ++ d) ++ e) ++ f) ++ g) ++ h)
-    ≡ old ++ ((a ++ ((b ++ (c ++ (d ++ (e ++ f)))) ++ g)) ++ h)
-file_joined old a b c d e f g h = simp append_assoc
+file_joined : (old a b c d e f g : List ℕ) → (((((((old ++ a) ++ b) ++ c) ++ d) ++ e) ++ f) ++ g)
+    ≡ old ++ (a ++ ((b ++ (c ++ (d ++ (e ++ f)))) ++ g))
+file_joined old a b c d e f g = simp append_assoc
 
-pub file_appended : (old a b c d e f g h m1 m2 m3 m4 m5 m6 m7 m8 : List ℕ) → m1 ≡ old ++ a → m2 ≡ m1 ++ b → m3 ≡ m2 ++ c → m4 ≡ m3 ++ d → m5 ≡ m4 ++ e
-    → m6 ≡ m5 ++ f → m7 ≡ m6 ++ g → m8 ≡ m7 ++ h → m8 ≡ old ++ ((a ++ ((b ++ (c ++ (d ++ (e ++ f)))) ++ g)) ++ h)
-file_appended old a b c d e f g h m1 m2 m3 m4 m5 m6 m7 m8 e1 e2 e3 e4 e5 e6 e7 e8 =
-    e8 ∙ ap (λ (l : List ℕ). l ++ h) (e7 ∙ ap (λ (l : List ℕ). l ++ g) (e6 ∙ ap (λ (l : List ℕ). l ++ f) (e5 ∙ ap (λ (l : List ℕ). l ++ e) (e4
-    ∙ ap (λ (l : List ℕ). l ++ d) (e3 ∙ ap (λ (l : List ℕ). l ++ c) (e2 ∙ ap (λ (l : List ℕ). l ++ b) e1))))))
-    ∙ file_joined old a b c d e f g h
+pub file_appended : (old a b c d e f g m1 m2 m3 m4 m5 m6 m7 : List ℕ) → m1 ≡ old ++ a → m2 ≡ m1 ++ b → m3 ≡ m2 ++ c → m4 ≡ m3 ++ d → m5 ≡ m4 ++ e
+    → m6 ≡ m5 ++ f → m7 ≡ m6 ++ g → m7 ≡ old ++ (a ++ ((b ++ (c ++ (d ++ (e ++ f)))) ++ g))
+file_appended old a b c d e f g m1 m2 m3 m4 m5 m6 m7 e1 e2 e3 e4 e5 e6 e7 =
+    e7 ∙ ap (λ (l : List ℕ). l ++ g) (e6 ∙ ap (λ (l : List ℕ). l ++ f) (e5 ∙ ap (λ (l : List ℕ). l ++ e) (e4
+    ∙ ap (λ (l : List ℕ). l ++ d) (e3 ∙ ap (λ (l : List ℕ). l ++ c) (e2 ∙ ap (λ (l : List ℕ). l ++ b) e1)))))
+    ∙ file_joined old a b c d e f g
 
 -- the same of a directory
 directory_joined : (old a b c d e f g h i : List ℕ) → (((((((((old ++ a) ++ b) ++ c) ++ d) ++ e) ++ f) ++ g) ++ h) ++ i)

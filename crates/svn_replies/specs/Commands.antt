@@ -4,20 +4,20 @@
 --     kind_answer h at fields      check-path: what is at a path
 --     place_of h at fields, IsStat s place bytes      stat: what is known of a node
 --     found_of h at kind fields      get-file, get-dir: the node that is found, and what is wanted of it
---     IsFile s found bytes      get-file: checksum, properties and text
+--     IsFile s found bytes      get-file: checksum and properties, before the text
+--     Tells s old text new read      the same, and what is held of the text that is sent then
 --     IsDirectory s found bytes      get-dir: properties and entries
 --     inherited_answer h at fields      get-iprops: the properties of the directories above a node
 --     dated_answer h revisions fields      get-dated-rev: the last revision that isn't younger than a date
 --     rev_prop_answer h revisions fields      rev-prop: the value of a property of a revision
 --     rev_props_answer h revisions fields      rev-proplist: the properties of a revision
-use Rattle.std.specs.Prelude.{◌≡◌, ℕ, zero, suc, Bool, true, false, List, [], ◌∷◌, ◌++◌, codes, slice_get, Option, Some, None, option_map, option_and_then, Result, Ok, if◌then◌else◌}
+use Rattle.std.specs.Prelude.{◌≡◌, ℕ, zero, suc, Bool, true, false, List, [], ◌∷◌, ◌++◌, codes, slice_get, Option, Some, None, option_map, option_and_then, Result, Ok, Err, if◌then◌else◌}
 use Rattle.std.specs.Cmp.Lexicographic.{slice_cmp}
 use Rattle.std.specs.Ordering.{is_le, nat_cmp}
-use Rattle.md5.specs.Md5.{md5}
 use Rattle.svn_types.specs.Names.{Path}
 use Rattle.svn_types.specs.PathTexts.{path_text}
 use Rattle.svn_types.specs.declared.kind.Kind.{Kind}
-use Rattle.svn_repo.specs.History.{History, look, node_at, text_in}
+use Rattle.svn_repo.specs.History.{History, look, node_at}
 use Rattle.svn_repo.specs.Readings.{entries_of}
 use Rattle.svn_wire.specs.declared.token.Token.{Token}
 use Rattle.svn_wire.specs.Fields.{number_field, text_field}
@@ -27,8 +27,10 @@ use Rattle.svn_replies.specs.declared.served.Served.{Served}
 use Rattle.svn_replies.specs.Answers.{success, kind_bytes, listed}
 use Rattle.svn_replies.specs.CommandFields.{path_and_rev, node_fields, prop_fields}
 use Rattle.svn_replies.specs.Named.{latest, known_rev, path_in, named_rev, node_in, node_of_kind, place_named}
+use Rattle.svn_replies.specs.NodeTexts.{file_text, sum_of}
 use Rattle.svn_replies.specs.NodeBytes.{pairs_bytes, IsEntry, ArePropsIf, AreEntriesIf}
-use Rattle.svn_replies.specs.Refusals.{Reason, needed, ◌>>=◌}
+use Rattle.svn_replies.specs.declared.fault.Refused.{Refused}
+use Rattle.svn_replies.specs.Refusals.{Reason, needed, Fails, ◌>>=◌}
 use Rattle.svn_replies.specs.Values.{Pairs, value_at}
 
 abbrev pub latest_answer : History → Result (List ℕ) Reason
@@ -79,32 +81,22 @@ found_of h at kind fields = do
   n ← node_of_kind h kind place.0 place.1
   Ok (record { rev = place.0; path = place.1; node = n; props = asked.2; content = asked.3 })
 
-abbrev pub file_text : History → ℕ → Option (List ℕ)
-file_text h n = option_and_then text_in (node_at h n)
+-- what is sent after the answer, where it is wanted
+abbrev pub text_if : Bool → Option (List ℕ) → Option (List ℕ)
+text_if true held = held
+text_if false held = None
 
--- a text as a string, unless it is empty
-abbrev pub piece : List ℕ → List ℕ
-piece [] = []
-piece (b ∷ bytes) = text_bytes (b ∷ bytes)
-
-abbrev pub piece_of : Option (List ℕ) → List ℕ
-piece_of None = []
-piece_of (Some text) = piece text
-
--- a text, the string that ends it, and that it was sent
-abbrev pub text_sent : Option (List ℕ) → List ℕ
-text_sent text = piece_of text ++ (text_bytes [] ++ success [])
-
--- where it is wanted
-abbrev pub text_if : Bool → Option (List ℕ) → List ℕ
-text_if true text = text_sent text
-text_if false text = []
-
+-- what is written before the text
 abbrev pub IsFile : Served → Found → List ℕ → Type 0
 IsFile s f bytes =
-    let text = file_text s.repo f.node in
     (props : List ℕ) × ArePropsIf f.props s f.rev f.path f.node props
-    × (bytes ≡ success (checksum (option_map md5 text) ++ (number_bytes f.rev ++ listed props)) ++ text_if f.content text)
+    × (bytes ≡ success (checksum (sum_of s f.node) ++ (number_bytes f.rev ++ listed props)))
+
+-- the answer to get-file, and what is sent after it
+abbrev pub Tells : Served → List ℕ → Result (Option (List ℕ)) Refused → List ℕ → Result Found Reason → Type 0
+Tells s old (Ok text) new read =
+    (f : Found) × (bytes : List ℕ) × (read ≡ Ok f) × (text ≡ text_if f.content (file_text s.repo f.node)) × IsFile s f bytes × (new ≡ old ++ bytes)
+Tells s old (Err e) new read = Fails e read
 
 abbrev pub IsDirectory : Served → Found → List ℕ → Type 0
 IsDirectory s f bytes =

@@ -8,6 +8,10 @@ pub mod Values
 pub mod Changes
 -- the last change of a node
 pub mod LastChanges
+-- what the texts of a repository stand for
+pub mod Texts
+-- the texts of files
+pub mod NodeTexts
 -- why a command isn't answered by success
 pub mod Refusals
 -- what a command's revisions and paths name

@@ -1,14 +1,13 @@
 -- What is written of a node, with its last change.
---     entry_bytes h n told      kind, size, whether there are properties, and the last change
+--     entry_bytes s n told      kind, size, whether there are properties, and the last change
 --     props_bytes h uuid n told      the properties, those that a server makes first
 --     IsEntry s r p n bytes, AreProps s r p n bytes      these are written of node n, which is at path p of revision r
 --     AreEntries s r p entries bytes      the same of the entries of a directory
-use Rattle.std.specs.Prelude.{◌≡◌, ℕ, Bool, true, false, List, [], ◌∷◌, ◌++◌, length, codes, Option, Some, None, option_map}
+use Rattle.std.specs.Prelude.{◌≡◌, ℕ, Bool, true, false, List, [], ◌∷◌, ◌++◌, codes, Option, Some, None, option_map}
 use Rattle.std.specs.List.{flat_map}
 use Rattle.std.specs.Fmt.{decimal}
 use Rattle.svn_types.specs.Names.{Path}
 use Rattle.svn_repo.specs.History.{History, node_at}
-use Rattle.svn_repo.specs.Readings.{text_of}
 use Rattle.svn_wire.specs.Writing.{number_bytes, text_bytes}
 use Rattle.svn_wire_calls.specs.declared.entered.Entered.{Entered}
 use Rattle.svn_wire_calls.specs.Calls.{optional}
@@ -16,6 +15,7 @@ use Rattle.svn_replies.specs.declared.served.Served.{Served}
 use Rattle.svn_replies.specs.Answers.{bool_bytes, kind_bytes, pair_bytes, known_pair, listed}
 use Rattle.svn_replies.specs.LastChanges.{IsChangeOrNone}
 use Rattle.svn_replies.specs.Nodes.{has_props}
+use Rattle.svn_replies.specs.NodeTexts.{size_of}
 use Rattle.svn_replies.specs.Values.{Pairs}
 
 -- a list of a date; the client reads no entry without one
@@ -35,10 +35,10 @@ change_pairs (Some told) =
     pair_bytes (codes "svn:entry:committed-rev") (decimal told.rev)
     ++ (known_pair (codes "svn:entry:committed-date") told.date ++ known_pair (codes "svn:entry:last-author") told.author)
 
-unfoldable pub entry_bytes : History → ℕ → Option Entered → List ℕ
-entry_bytes h n told =
-    kind_bytes (option_map (λ row. row.kind) (node_at h n))
-    ++ (number_bytes (length (text_of h n)) ++ (bool_bytes (has_props h n) ++ change_bytes told))
+unfoldable pub entry_bytes : Served → ℕ → Option Entered → List ℕ
+entry_bytes s n told =
+    kind_bytes (option_map (λ row. row.kind) (node_at s.repo n))
+    ++ (number_bytes (size_of s n) ++ (bool_bytes (has_props s.repo n) ++ change_bytes told))
 
 abbrev pub pairs_bytes : Option Pairs → List ℕ
 pairs_bytes None = []
@@ -51,7 +51,7 @@ props_bytes h uuid n told =
 -- ---- with the last change of the node
 
 abbrev pub IsEntry : Served → ℕ → Path → ℕ → List ℕ → Type 0
-IsEntry s r p n bytes = (told : Option Entered) × IsChangeOrNone s r p told × (bytes ≡ entry_bytes s.repo n told)
+IsEntry s r p n bytes = (told : Option Entered) × IsChangeOrNone s r p told × (bytes ≡ entry_bytes s n told)
 
 abbrev pub AreProps : Served → ℕ → Path → ℕ → List ℕ → Type 0
 AreProps s r p n bytes = (told : Option Entered) × IsChangeOrNone s r p told × (bytes ≡ props_bytes s.repo s.uuid n told)

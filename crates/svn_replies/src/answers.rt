@@ -3,7 +3,7 @@ ghost use Rattle.std.specs.Prelude.{◌≡◌, ◌++◌, ℕ, List, OnOk};
 ghost use Rattle.svn_types.specs.declared.kind.Kind.TheVariants.{File, Directory};
 ghost use Rattle.svn_replies.specs.Asking.{found_as};
 ghost use Rattle.svn_replies.specs.Refusals.{Answers, Says, Gives};
-ghost use Rattle.svn_replies.specs.Commands.{kind_answer, place_of, found_of, inherited_answer, IsStat, IsFile, IsDirectory};
+ghost use Rattle.svn_replies.specs.Commands.{kind_answer, place_of, found_of, inherited_answer, IsStat, IsFile, IsDirectory, Tells};
 
 use crate::fault::Refused;
 use crate::fields::{node_fields, path_and_rev};
@@ -11,7 +11,7 @@ use crate::session::{Place, View};
 use crate::writing::{push_close, push_end, push_kind, push_open, push_rev, push_success};
 use std::alloc::AllocError;
 use svn_repo::NodeId;
-use svn_types::Kind;
+use svn_types::{Kind, Text};
 use svn_wire::Token;
 
 /// `check-path`: what is at a path.
@@ -82,13 +82,18 @@ fn found_of(view: View<'_>, kind: Kind, fields: &[Token]) -> Result<Found, Refus
     })
 }
 
-/// `get-file`: checksum, properties and text.
-#[tactic(auto, unfolding(crate::specs::Answers::success))]
-pub fn answer_file(view: View<'_>, fields: &[Token], out: &mut Vec<u8>) -> Result<(), Refused>
-    ensures { Says (IsFile view.entry.served.now) out.old.items result out.new.items (found_of view.entry.served.now.repo view.entry.session.now.at File fields.now) }
+/// `get-file`: checksum and properties; and what is held of the text, where it is wanted.
+pub fn answer_file(
+    view: View<'_>,
+    fields: &[Token],
+    out: &mut Vec<u8>,
+) -> Result<Option<Text>, Refused>
+    ensures { Tells view.entry.served.now out.old.items result out.new.items (found_of view.entry.served.now.repo view.entry.session.now.at File fields.now) }
 {
     let found = found_of(view, Kind::File, fields)?;
-    Ok(push_file(view, &found, out)?)
+    let text = view.text_if(found.content, found.node)?;
+    push_file(view, &found, out)?;
+    Ok(text)
 }
 
 #[tactic(auto, unfolding(crate::specs::Answers::success))]
@@ -101,8 +106,7 @@ fn push_file(view: View<'_>, found: &Found, out: &mut Vec<u8>) -> Result<(), All
     push_open(out)?;
     view.push_props_if(out, found.props, found.node, &found.place)?;
     push_close(out)?;
-    push_end(out)?;
-    view.push_text_if(out, found.content, found.node)
+    push_end(out)
 }
 
 /// `get-dir`: properties and entries.

@@ -1,7 +1,6 @@
 //! What is written of a node.
 ghost use Rattle.std.specs.Prelude.{◌≡◌, ◌++◌, ◌∷◌, [], ℕ, List, Option, Some, option_map, IfOk, OnOk};
 ghost use Rattle.std.specs.Option.{option_copied};
-ghost use Rattle.md5.specs.Md5.{md5};
 ghost use Rattle.svn_types.specs.PathTexts.{path_text};
 ghost use Rattle.svn_repo.specs.History.{node_at, look};
 ghost use Rattle.svn_repo.specs.Readings.{entries_of};
@@ -9,8 +8,9 @@ ghost use Rattle.svn_wire.specs.Writing.{text_bytes};
 ghost use Rattle.svn_wire_calls.specs.Calls.{checksum};
 ghost use Rattle.svn_wire_calls.specs.declared.entered.Entered.{Entered};
 ghost use Rattle.svn_replies.specs.Answers.{listed};
-ghost use Rattle.svn_replies.specs.Commands.{file_text, piece_of, text_sent, text_if, props_at, inherited_pairs, inherited_from, IsStatOf};
+ghost use Rattle.svn_replies.specs.Commands.{text_if, props_at, inherited_pairs, inherited_from, IsStatOf};
 ghost use Rattle.svn_replies.specs.LastChanges.{IsChangeOrNone};
+ghost use Rattle.svn_replies.specs.NodeTexts.{file_text, sum_of};
 ghost use Rattle.svn_replies.specs.NodeBytes.{date_bytes, change_bytes, change_pairs, entry_bytes, pairs_bytes, props_bytes, IsEntry, ArePropsIf, AreEntries, AreEntriesIf};
 
 use crate::session::{Place, View};
@@ -85,7 +85,7 @@ impl View<'_> {
         rev: Rev,
         path: &RelPath,
     ) -> Result<(), AllocError>
-        ensures { OnOk result ((told : Option Entered) × IsChangeOrNone self.now.served.now rev path.now told × (out.new.items ≡ out.old.items ++ entry_bytes self.now.served.now.repo node told)) }
+        ensures { OnOk result ((told : Option Entered) × IsChangeOrNone self.now.served.now rev path.now told × (out.new.items ≡ out.old.items ++ entry_bytes self.now.served.now node told)) }
     {
         let told = self.served.entered(self.alloc, rev, path)?;
         push_kind(out, self.served.repo.kind(node))?;
@@ -141,48 +141,22 @@ impl View<'_> {
 
     /// A list of the checksum of a file.
     pub(crate) fn push_checksum(&self, out: &mut Vec<u8>, node: NodeId) -> Result<(), AllocError>
-        ensures { OnOk result (out.new.items ≡ out.old.items ++ checksum (option_map md5 (file_text self.now.served.now.repo node))) }
+        ensures { OnOk result (out.new.items ≡ out.old.items ++ checksum (sum_of self.now.served.now node)) }
     {
-        let Some(text) = self.served.repo.shared_text(node) else {
+        let Some(sum) = self.served.sum(node) else {
             return out.extend_from_slice(b"( ) ");
         };
-        let sum = text.checksum();
         let word = hex::encode(self.alloc, &sum.0[..])?;
         push_some(out, word.as_bytes())
     }
 
-    // The text of a file as a string, unless it is empty.
-    fn push_piece(&self, out: &mut Vec<u8>, node: NodeId) -> Result<(), AllocError>
-        ensures { OnOk result (out.new.items ≡ out.old.items ++ piece_of (file_text self.now.served.now.repo node)) }
+    /// What the repository holds of the text of a file, where it is wanted.
+    pub(crate) fn text_if(&self, wanted: bool, node: NodeId) -> Result<Option<Text>, AllocError>
+        ensures { IfOk result (λ text. text ≡ text_if wanted (file_text self.now.served.now.repo node)) }
     {
-        match self.served.repo.text(node) {
-            None | Some([]) => Ok(()),
-            Some(text) => push_text(out, text),
-        }
-    }
-
-    // The text of a file, the string that ends it, and that it was sent.
-    fn push_text_sent(&self, out: &mut Vec<u8>, node: NodeId) -> Result<(), AllocError>
-        ensures { OnOk result (out.new.items ≡ out.old.items ++ text_sent (file_text self.now.served.now.repo node)) }
-    {
-        self.push_piece(out, node)?;
-        push_text(out, b"")?;
-        push_done(out)
-    }
-
-    /// The same, where it is wanted.
-    pub(crate) fn push_text_if(
-        &self,
-        out: &mut Vec<u8>,
-        wanted: bool,
-        node: NodeId,
-    ) -> Result<(), AllocError>
-        ensures { OnOk result (out.new.items ≡ out.old.items ++ text_if wanted (file_text self.now.served.now.repo node)) }
-    {
-        if wanted {
-            self.push_text_sent(out, node)
-        } else {
-            Ok(())
+        match self.served.repo.shared_text(node) {
+            Some(text) if wanted => Ok(Some(text.clone()?)),
+            _ => Ok(None),
         }
     }
 

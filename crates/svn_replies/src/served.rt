@@ -1,13 +1,14 @@
 //! What is served.
-ghost use Rattle.std.specs.Prelude.{◌≡◌, ◌↔◌, codes, length, slice_get, IfOk, IfSome, IsSome};
+ghost use Rattle.std.specs.Prelude.{◌≡◌, ◌↔◌, codes, slice_get, IfOk, IfSome, IsSome};
 ghost use Rattle.std.specs.Option.{option_copied};
 ghost use Rattle.svn_repo.specs.History.{look};
-ghost use Rattle.svn_repo.specs.Readings.{is_directory_at, text_of};
+ghost use Rattle.svn_repo.specs.Readings.{is_directory_at};
 ghost use Rattle.svn_history.specs.Made.{RootsRise};
 ghost use Rattle.svn_history.specs.Changed.{IsLastChange};
 ghost use Rattle.svn_replies.specs.Values.{value_in, value_at};
 ghost use Rattle.svn_replies.specs.Nodes.{line_at, has_props};
 ghost use Rattle.svn_replies.specs.LastChanges.{IsChangeOrNone};
+ghost use Rattle.svn_replies.specs.NodeTexts.{size_of, sum_of};
 
 use crate::changes::Changes;
 use std::alloc::{AllocError, Global};
@@ -16,7 +17,7 @@ use svn_drive::DriveOptions;
 use svn_dump::DumpIndex;
 use svn_history::last_change;
 use svn_repo::{NodeId, Repo};
-use svn_types::{Kind, Props, RelPath, Rev, Text};
+use svn_types::{Digest, Kind, Props, RelPath, Rev, Text};
 use svn_wire_calls::Entered;
 
 /// The properties of revisions: author, date, log message.
@@ -72,13 +73,24 @@ impl Revisions {
     }
 }
 
+/// What a repository holds of texts.
+#[derive(Clone, Copy, Debug, PartialEq, Eq)]
+pub enum Holds {
+    /// The texts themselves.
+    Texts,
+    /// A stand-in for each, by its SHA-1 checksum: the texts are in the dump, where its index says.
+    StandIns,
+}
+
 /// What is served. It never changes.
 #[derive(Drop)]
 pub struct Served {
     /// The repository, loaded from a dump that begins at its first revision.
     pub repo: Repo,
-    /// What the dump says of copies.
+    /// What the dump says of copies, and where the texts are that it gives whole.
     pub index: DumpIndex,
+    /// What the repository holds of texts.
+    pub holds: Holds,
     /// The properties of its revisions.
     pub revisions: Revisions,
     /// What its revisions changed, path by path.
@@ -167,11 +179,21 @@ impl Served {
 
     /// How many bytes a file has; none at a directory.
     pub(crate) fn size(&self, node: NodeId) -> u64
-        ensures { result ≡ length (text_of self.now.repo node) }
+        ensures { result ≡ size_of self.now node }
     {
         match self.repo.text(node) {
-            Some(text) => text.len() as u64,
+            Some(held) => self.known_len(held),
             None => 0,
+        }
+    }
+
+    /// The MD5 checksum of a file; None at a directory.
+    pub(crate) fn sum(&self, node: NodeId) -> Option<Digest>
+        ensures { result ≡ sum_of self.now node }
+    {
+        match self.repo.shared_text(node) {
+            Some(held) => self.known_md5(held),
+            None => None,
         }
     }
 

@@ -22,6 +22,7 @@ use Rattle.svn_wire_calls.specs.Laws.{Writes, CallsAreWritten}
 use Rattle.svn_served.specs.declared.driving.Driven.{Driven}
 use Rattle.svn_served.specs.declared.notes.Notes.{Notes}
 use Rattle.svn_replies.specs.Answers.{failure}
+use Rattle.svn_replies.specs.Texts.{IsText, IsSum}
 use Rattle.svn_served.specs.ClientCalls.{client_name, client_call, client_calls, PassesOn, Skips}
 use Rattle.svn_served.specs.Drives.{Drive, noted_drive, input, calls_of, AreSent, LeavesWritten, TellsEnd, IsStopped, IsNone, IsDrive}
 use Rattle.svn_served.specs.Told.{Tells}
@@ -77,8 +78,15 @@ module _ {E N M V : Type 0} (writer : E → N) (contents : E → Option (List �
   abbrev pub told_by : Notes → Path → Option Entered → Type 0
   told_by n = Tells n.served.now (input_of n.served.now.repo n.report.now n.request.now) n.entry.now
 
+  -- what texts stand for
+  abbrev pub texts_by : Notes → List ℕ → List ℕ → Type 0
+  texts_by n = IsText n.served.now
+
+  abbrev pub sums_by : Notes → List ℕ → List ℕ → Type 0
+  sums_by n = IsSum n.served.now
+
   abbrev pub Writing : E → Call → Result (Unit {0}) EditFault → E → Type 0
-  Writing = Writes writer contents teller told_by
+  Writing = Writes writer contents teller told_by texts_by sums_by
 
   abbrev pub Making : V → Call → Result (Unit {0}) EditFault → V → Type 0
   Making = Views Writing editor held name texts
@@ -100,7 +108,7 @@ module _ {E N M V : Type 0} (writer : E → N) (contents : E → Option (List �
   making_holds v c r w h = h.2
 
   module _ (n : Notes) (v : V) (is : teller (editor v) ≡ n) (named : name v ≡ client_name n.entry.now)
-      (law : CallsAreWritten writer contents teller told_by (editor v)) where
+      (law : CallsAreWritten writer contents teller told_by texts_by sums_by (editor v)) where
     abbrev made : Drive
     made = noted_drive n (texts v)
 
@@ -109,8 +117,8 @@ module _ {E N M V : Type 0} (writer : E → N) (contents : E → Option (List �
         → (bytes : List ℕ) × AreSent made calls bytes × Appends (contents (editor v)) (contents (editor w)) bytes
     sent calls w h =
         let x = (law (client_calls (name v) (texts v) calls) (editor w) (leads_on Writing editor held name texts calls v w h)).1 in
-        let by_notes = subst (λ (m : Notes). AreWritten (told_by m) (client_calls (name v) (texts v) calls) x.0) is x.1 in
-        (x.0, subst (λ (m : Option (List ℕ)). AreWritten (told_by n) (client_calls m (texts v) calls) x.0) named by_notes, x.2)
+        let by_notes = subst (λ (m : Notes). AreWritten (told_by m) (texts_by m) (sums_by m) (client_calls (name v) (texts v) calls) x.0) is x.1 in
+        (x.0, subst (λ (m : Option (List ℕ)). AreWritten (told_by n) (texts_by n) (sums_by n) (client_calls m (texts v) calls) x.0) named by_notes, x.2)
 
     abbrev Left : Result DriveEnd DriveFault → V → Type 0
     Left end w = LeavesWritten made end (contents (editor v)) (contents (editor w))

@@ -8,6 +8,8 @@ use Rattle.svn_wire.specs.declared.token.Token.{Token}
 use Rattle.svn_wire.specs.Answers.{failure_of}
 use Rattle.svn_wire.specs.Fields.{◌>>=◌, command_of, list_field, number_field, text_field, word_field, word_list}
 use Rattle.svn_wire.specs.Writing.{text_bytes}
+use Rattle.svn_wire_calls.specs.declared.pieces.Form.TheVariants.{Strings}
+use Rattle.svn_wire_calls.specs.Pieces.{sent_bytes}
 use Rattle.svn_served.specs.declared.connection.Phase.{Phase}
 use Rattle.svn_served.specs.declared.connection.Phase.TheVariants as phases
 use Rattle.svn_commands.specs.declared.commands.Replied.{Replied}
@@ -23,6 +25,7 @@ use Rattle.svn_served.specs.Asking.{IsFree}
 use Rattle.svn_replies.specs.Refusals.{Reason, as_read, Gives, reasons, IsTold}
 use Rattle.svn_commands.specs.Replies.{Replies}
 use Rattle.svn_replies.specs.Sessions.{IsOpened}
+use Rattle.svn_replies.specs.Texts.{IsText}
 use Rattle.svn_served.specs.Reporting.{begun}
 use Rattle.svn_served.specs.Wanting.{driving_of, wanted_of}
 use Rattle.svn_served.specs.Reports.{step, reported, Ends, Reports}
@@ -84,16 +87,27 @@ Asks s session (Some asked) after bytes =
 -- no report follows, and the client may be in another directory then
 abbrev pub after_reply : Session → Replied → Phase
 after_reply session replied.Stays = phases.Ready session
+after_reply session (replied.Sends held) = phases.Ready session
 after_reply session (replied.Goes path) = phases.Ready (record { url = session.url; at = path })
 
+-- a text in strings, the one that ends it, and that it was sent
+abbrev pub text_sent : List ℕ → List ℕ
+text_sent text = sent_bytes Strings text ++ (text_bytes [] ++ success [])
+
+-- the text that is sent after an answer
+abbrev pub IsSentAfter : Served → Replied → List ℕ → Type 0
+IsSentAfter s (replied.Sends held) sent = (text : List ℕ) × IsText s held text × (sent ≡ text_sent text)
+IsSentAfter s reply sent = sent ≡ []
+
 -- it is answered by success; or why it isn't is told after what was written before
-abbrev pub Concludes : Session → Result Replied Refused → List ℕ → Phase → List ℕ → Type 0
-Concludes session (Ok reply) written after bytes = (after ≡ after_reply session reply) × (bytes ≡ written)
-Concludes session (Err e) written after bytes = (after ≡ phases.Ready session) × IsTold e written bytes
+abbrev pub Concludes : Served → Session → Result Replied Refused → List ℕ → Phase → List ℕ → Type 0
+Concludes s session (Ok reply) written after bytes =
+    (sent : List ℕ) × (after ≡ after_reply session reply) × IsSentAfter s reply sent × (bytes ≡ written ++ sent)
+Concludes s session (Err e) written after bytes = (after ≡ phases.Ready session) × IsTold e written bytes
 
 abbrev pub IsAnswered : Served → Session → List ℕ → List Token → Phase → List ℕ → Type 0
 IsAnswered s session name fields after bytes =
-    (result : Result Replied Refused) × (written : List ℕ) × Replies s session name fields result [] written × Concludes session result written after bytes
+    (result : Result Replied Refused) × (written : List ℕ) × Replies s session name fields result [] written × Concludes s session result written after bytes
 
 abbrev pub AnswersOf : Served → Session → Option Driving → List ℕ → List Token → Phase → List ℕ → Type 0
 AnswersOf s session (Some driving) name fields after bytes = Asks s session (asked_by driving fields) after bytes
@@ -119,17 +133,17 @@ TookBy session item (Some c) after bytes =
 
 -- ---- items
 
--- of an item that isn't a command of a report; nothing comes of one of which nothing is expected
-abbrev pub TakesPlain : Served → Phase → List Token → Phase → List ℕ → Type 0
-TakesPlain s phases.Greeted item after bytes = GreetsBy s (url_of item) after bytes
-TakesPlain s (phases.Named session) item after bytes = LetsInBy s session (mechanism_of item) after bytes
-TakesPlain s (phases.Ready session) item after bytes = Answers s session (command_of item) after bytes
-TakesPlain s (phases.Driven session) item after bytes = TookBy session item (command_of item) after bytes
-TakesPlain s phase item after bytes = (after ≡ phase) × (bytes ≡ [])
+-- of an item that isn't a command; nothing comes of one of which nothing is expected
+abbrev pub TakesOther : Served → Phase → List Token → Phase → List ℕ → Type 0
+TakesOther s phases.Greeted item after bytes = GreetsBy s (url_of item) after bytes
+TakesOther s (phases.Named session) item after bytes = LetsInBy s session (mechanism_of item) after bytes
+TakesOther s (phases.Driven session) item after bytes = TookBy session item (command_of item) after bytes
+TakesOther s phase item after bytes = (after ≡ phase) × (bytes ≡ [])
 
 abbrev pub Takes : Served → Phase → List Token → Phase → List ℕ → Type 0
+Takes s (phases.Ready session) item after bytes = Answers s session (command_of item) after bytes
 Takes s (phases.Reporting session state) item after bytes = Reports s session state item after bytes
-Takes s phase item after bytes = TakesPlain s phase item after bytes
+Takes s phase item after bytes = TakesOther s phase item after bytes
 
 abbrev pub Runs : Served → Phase → List (List Token) → Phase → List ℕ → Type 0
 Runs s phase [] after bytes = (after ≡ phase) × (bytes ≡ [])

@@ -1,5 +1,5 @@
 -- What is written of a drive.
---     AreSent d calls bytes      these are calls as a client is sent them, with what is said of nodes
+--     AreSent d calls bytes      these are calls as a client is sent them, with the texts that theirs stand for, and with what is said of nodes
 --     LeavesWritten d end old new      what the calls of a drive have left written, by how they ended
 --     IsDrive d driven bytes      all that is written of a drive: its calls; or the first of them and a failure where a stop was asked for; or why there is none
 use Rattle.std.specs.Prelude.{◌≡◌, ◌⊎◌, ℕ, ◌<◌, Bool, List, ◌++◌, take, length, Option, Some, None, Result, Ok, Err}
@@ -29,6 +29,7 @@ use Rattle.svn_served.specs.declared.wanted.Wanted.{Wanted}
 use Rattle.svn_replies.specs.Answers.{failure}
 use Rattle.svn_served.specs.ClientCalls.{client_name, client_calls}
 use Rattle.svn_replies.specs.Refusals.{Reason, fails, refusal_code}
+use Rattle.svn_replies.specs.Texts.{IsText, IsSum}
 use Rattle.svn_served.specs.Told.{Tells}
 
 -- what a drive is made from, and of it what a client is sent
@@ -56,7 +57,8 @@ abbrev pub calls_of : Drive → List Call
 calls_of d = drive_for d.served.repo d.report d.request
 
 abbrev pub AreSent : Drive → List Call → List ℕ → Type 0
-AreSent d calls bytes = AreWritten (Tells d.served (input d) d.entry) (client_calls (client_name d.entry) d.with_texts calls) bytes
+AreSent d calls bytes =
+    AreWritten (Tells d.served (input d) d.entry) (IsText d.served) (IsSum d.served) (client_calls (client_name d.entry) d.with_texts calls) bytes
 
 -- ---- why there is none
 

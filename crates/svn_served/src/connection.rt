@@ -5,7 +5,8 @@ ghost use Rattle.svn_served.specs.declared.connection.Phase.TheVariants.{Over};
 ghost use Rattle.svn_wire.specs.Fields.{command_of};
 ghost use Rattle.svn_served.specs.Asking.{Follows};
 ghost use Rattle.svn_replies.specs.Refusals.{IsTold};
-ghost use Rattle.svn_served.specs.Connection.{sent_back, after_reply, Answers, TookBy, TakesPlain, Takes};
+ghost use Rattle.svn_replies.specs.Texts.{IsText};
+ghost use Rattle.svn_served.specs.Connection.{sent_back, after_reply, text_sent, IsSentAfter, Answers, TookBy, TakesOther, Takes};
 
 use crate::commands::{Answered, answer_command};
 use crate::fault::ServeFault;
@@ -14,11 +15,12 @@ use crate::reporting::Reporting;
 use crate::reports::take_report;
 use crate::wanted::Wanted;
 use std::alloc::{AllocError, Global};
-use std::io::Write;
+use std::io::{Read, Seek, Write};
 use svn_commands::Replied;
 use svn_replies::{Refused, Served, Session, View, push_done, push_failure};
-use svn_types::RelPath;
+use svn_types::{RelPath, Text};
 use svn_wire::{Token, command, push_number, push_text, read_failure};
+use svn_wire_calls::{Form, send_text};
 
 /// What a client does next.
 #[derive(Drop)]
@@ -90,21 +92,68 @@ fn after_reply(session: Session, replied: Replied) -> Phase
     ensures { result ≡ after_reply session replied }
 {
     match replied {
-        Replied::Stays => Phase::Ready(session),
+        Replied::Stays | Replied::Sends(_) => Phase::Ready(session),
         Replied::Goes(path) => Phase::Ready(moved(session, path)),
     }
 }
 
-// The answer to a command, where nothing is written before it.
-fn answer(
+// The text that a client is sent after an answer, if it is sent one.
+fn send_after<W: Write, F: Read + Seek>(
+    alloc: Global,
+    served: &Served,
+    replied: &Replied,
+    texts: &mut F,
+    writer: &mut W,
+) -> Result<(), ServeFault>
+    ensures { OnOk result ((sent : List ℕ) × IsSentAfter served.now replied.now sent × Appends (W.contents writer.old) (W.contents writer.new) sent) }
+{
+    match replied {
+        Replied::Sends(held) => send_file(alloc, served, held, texts, writer),
+        Replied::Stays | Replied::Goes(_) => Ok(()),
+    }
+}
+
+// The text of a file, the string that ends it, and that it was sent.
+fn send_file<W: Write, F: Read + Seek>(
+    alloc: Global,
+    served: &Served,
+    held: &Text,
+    texts: &mut F,
+    writer: &mut W,
+) -> Result<(), ServeFault>
+    ensures { OnOk result ((text : List ℕ) × IsText served.now held.now text × Appends (W.contents writer.old) (W.contents writer.new) (text_sent text)) }
+{
+    send_text(alloc, Form::Strings, served, held, texts, writer)?;
+    let mut out = Vec::new(alloc);
+    push_text(&mut out, b"")?;
+    push_done(&mut out)?;
+    write_out(writer, &out)
+}
+
+// An answer, and what is sent after it.
+fn conclude<W: Write, F: Read + Seek>(
+    view: View<'_>,
+    replied: &Replied,
+    bytes: &[u8],
+    texts: &mut F,
+    writer: &mut W,
+) -> Result<(), ServeFault>
+    ensures { OnOk result ((sent : List ℕ) × IsSentAfter view.entry.served.now replied.now sent × Appends (W.contents writer.old) (W.contents writer.new) (bytes.now ++ sent)) }
+{
+    write_out(writer, bytes)?;
+    send_after(view.alloc, view.served, replied, texts, writer)
+}
+
+// The answer to a command.
+fn answer<W: Write, F: Read + Seek>(
     alloc: Global,
     served: &Served,
     session: Session,
     item: &[Token],
-    out: &mut Vec<u8>,
+    texts: &mut F,
+    writer: &mut W,
 ) -> Result<Phase, ServeFault>
-    requires { out.old.items ≡ [] }
-    ensures { IfOk result (λ phase. (bytes : List ℕ) × Answers served.now session (command_of item.now) phase bytes × (out.new.items ≡ out.old.items ++ bytes)) }
+    ensures { IfOk result (λ phase. (bytes : List ℕ) × Answers served.now session (command_of item.now) phase bytes × Appends (W.contents writer.old) (W.contents writer.new) bytes) }
 {
     let Some((name, fields)) = command(item) else {
         return Err(ServeFault::BadCommand);
@@ -114,11 +163,19 @@ fn answer(
         served,
         session: &session,
     };
-    match answer_command(view, name, fields, out) {
-        Ok(Answered::Replied(replied)) => Ok(after_reply(session, replied)),
-        Ok(Answered::Wants(wanted)) => Ok(Phase::Reporting(session, reporting(alloc, wanted))),
+    let mut out = Vec::new(alloc);
+    match answer_command(view, name, fields, &mut out) {
+        Ok(Answered::Replied(replied)) => {
+            conclude(view, &replied, &out, texts, writer)?;
+            Ok(after_reply(session, replied))
+        }
+        Ok(Answered::Wants(wanted)) => {
+            write_out(writer, &out)?;
+            Ok(Phase::Reporting(session, reporting(alloc, wanted)))
+        }
         Err(refused) => {
-            push_refused(out, refused)?;
+            push_refused(&mut out, refused)?;
+            write_out(writer, &out)?;
             Ok(Phase::Ready(session))
         }
     }
@@ -154,46 +211,56 @@ fn took(session: Session, item: &[Token], out: &mut Vec<u8>) -> Result<Phase, Se
     Ok(Phase::Ready(session))
 }
 
-// Takes an item that isn't a command of a report, where nothing is written before it.
-fn take_plain(
+// Takes an item that isn't a command.
+fn take_other(
     alloc: Global,
     served: &Served,
     phase: Phase,
     item: &[Token],
     out: &mut Vec<u8>,
 ) -> Result<Phase, ServeFault>
-    requires { out.old.items ≡ [] }
-    ensures { IfOk result (λ after. (bytes : List ℕ) × TakesPlain served.now phase item.now after bytes × (out.new.items ≡ out.old.items ++ bytes)) }
+    ensures { IfOk result (λ after. (bytes : List ℕ) × TakesOther served.now phase item.now after bytes × (out.new.items ≡ out.old.items ++ bytes)) }
 {
     match phase {
         Phase::Greeted => greet(alloc, served, item, out),
         Phase::Named(session) => let_in(served, session, item, out),
-        Phase::Ready(session) => answer(alloc, served, session, item, out),
         Phase::Driven(session) => took(session, item, out),
-        Phase::Reporting(session, reporting) => Ok(Phase::Reporting(session, reporting)),
-        Phase::Over => Ok(Phase::Over),
+        phase => Ok(phase),
     }
 }
 
-/// Takes an item: writes what is written for it, and says what the client does next.
-pub(crate) fn take<W: Write>(
+// The same, with what is written.
+fn take_plain<W: Write>(
     alloc: Global,
     served: &Served,
     phase: Phase,
     item: &[Token],
     writer: &mut W,
 ) -> Result<Phase, ServeFault>
+    ensures { IfOk result (λ after. (bytes : List ℕ) × TakesOther served.now phase item.now after bytes × Appends (W.contents writer.old) (W.contents writer.new) bytes) }
+{
+    let mut out = Vec::new(alloc);
+    let after = take_other(alloc, served, phase, item, &mut out)?;
+    write_out(writer, &out)?;
+    Ok(after)
+}
+
+/// Takes an item: writes what is written for it, and says what the client does next.
+pub(crate) fn take<W: Write, F: Read + Seek>(
+    alloc: Global,
+    served: &Served,
+    phase: Phase,
+    item: &[Token],
+    texts: &mut F,
+    writer: &mut W,
+) -> Result<Phase, ServeFault>
     ensures { IfOk result (λ after. (bytes : List ℕ) × Takes served.now phase item.now after bytes × Appends (W.contents writer.old) (W.contents writer.new) bytes) }
 {
     match phase {
+        Phase::Ready(session) => answer(alloc, served, session, item, texts, writer),
         Phase::Reporting(session, reporting) => {
-            take_report(alloc, served, session, reporting, item, writer)
+            take_report(alloc, served, session, reporting, item, texts, writer)
         }
-        phase => {
-            let mut out = Vec::new(alloc);
-            let after = take_plain(alloc, served, phase, item, &mut out)?;
-            write_out(writer, &out)?;
-            Ok(after)
-        }
+        phase => take_plain(alloc, served, phase, item, writer),
     }
 }

@@ -10,11 +10,11 @@ use crate::fault::ServeFault;
 use crate::notes::Notes;
 use crate::wanted::Wanted;
 use std::alloc::{AllocError, Global};
-use std::io::Write;
+use std::io::{Read, Seek, Write};
 use svn_drive::{DriveEnd, DriveFault, ReportFault, check_report, drive_request};
 use svn_replies::{Failure, Refused, Served, code, push_failure};
 use svn_report::Report;
-use svn_wire_calls::{WireEditor, calls_are_written};
+use svn_wire_calls::{OpenedTexts, WireEditor, calls_are_written};
 
 /// How a drive ended.
 #[derive(Clone, Copy, Debug, PartialEq, Eq)]
@@ -92,10 +92,10 @@ fn stopped(alloc: Global) -> Result<Failure, AllocError>
 }
 
 // Makes the calls as the client is sent them.
-fn drive_view<W: Write>(
+fn drive_view<W: Write, F: Read + Seek>(
     alloc: Global,
     notes: Notes<'_>,
-    view: &mut ClientView<'_, '_, WireEditor<'_, W, Notes<'_>>>,
+    view: &mut ClientView<'_, '_, WireEditor<'_, W, F, Notes<'_>>>,
 ) -> Result<DriveEnd, DriveFault>
     requires notes { view.old.editor.now.teller ≡ notes }
     requires entry { view.old.entry.now ≡ notes.entry.now }
@@ -108,11 +108,11 @@ fn drive_view<W: Write>(
 }
 
 // Makes the calls.
-fn drive_editor<W: Write>(
+fn drive_editor<W: Write, F: Read + Seek>(
     alloc: Global,
     notes: Notes<'_>,
     with_texts: bool,
-    editor: &mut WireEditor<'_, W, Notes<'_>>,
+    editor: &mut WireEditor<'_, W, F, Notes<'_>>,
 ) -> Result<DriveEnd, DriveFault>
     requires { editor.old.teller ≡ notes }
     ensures written { LeavesWritten (noted_drive notes.entry with_texts) result (W.contents editor.old.writer.now) (W.contents editor.new.writer.now) }
@@ -127,19 +127,21 @@ fn drive_editor<W: Write>(
     drive_view(alloc, notes, &mut view)
 }
 
-// Makes the calls, and returns why the writer failed where it did.
-fn make_calls<W: Write>(
+// Makes the calls, and returns why one couldn't be written, if one couldn't.
+fn make_calls<W: Write, F: Read + Seek>(
     alloc: Global,
     notes: Notes<'_>,
     with_texts: bool,
+    texts: &mut F,
     writer: &mut W,
 ) -> Result<Result<DriveEnd, DriveFault>, ServeFault>
     ensures { IfOk result (λ end. LeavesWritten (noted_drive notes.entry with_texts) end (W.contents writer.old) (W.contents writer.new)) }
 {
-    let mut editor = WireEditor::new(alloc, writer, notes);
+    let mut opened = OpenedTexts::new(alloc);
+    let mut editor = WireEditor::new(alloc, writer, texts, &mut opened, notes);
     let end = drive_editor(alloc, notes, with_texts, &mut editor);
     match editor.take_failure() {
-        Some(error) => Err(ServeFault::Write(error)),
+        Some(fault) => Err(ServeFault::from(fault)),
         None => Ok(end),
     }
 }
@@ -166,11 +168,12 @@ fn tell_end<W: Write>(
 }
 
 /// Writes the drive that a report asks for, as it is made.
-pub(crate) fn write_drive<W: Write>(
+pub(crate) fn write_drive<W: Write, F: Read + Seek>(
     alloc: Global,
     served: &Served,
     wanted: &Wanted,
     report: &Report,
+    texts: &mut F,
     writer: &mut W,
 ) -> Result<Driven, ServeFault>
     ensures { IfOk result (λ driven. (bytes : List ℕ) × IsDrive (wanted_drive served.now wanted.now report.now) driven bytes × Appends (W.contents writer.old) (W.contents writer.new) bytes) }
@@ -181,7 +184,7 @@ pub(crate) fn write_drive<W: Write>(
         request: &wanted.request,
         entry: &wanted.entry,
     };
-    let end = make_calls(alloc, notes, wanted.with_texts, writer)?;
+    let end = make_calls(alloc, notes, wanted.with_texts, texts, writer)?;
     let driven = tell_end(alloc, end, writer)?;
     Ok(driven)
 }

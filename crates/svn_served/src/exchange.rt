@@ -9,7 +9,7 @@ use crate::connection::{Phase, take, write_out};
 use crate::fault::ServeFault;
 use crate::opening::GREETING;
 use std::alloc::Global;
-use std::io::{Error, ErrorKind, Read, Write};
+use std::io::{Error, ErrorKind, Read, Seek, Write};
 use std::mem;
 use svn_replies::Served;
 use svn_wire::{ItemStream, Limits, Stop, Token, WireFault};
@@ -26,9 +26,11 @@ pub const CLIENT_LIMITS: Limits = Limits {
 
 /// A connection as far as it came.
 #[derive(Drop)]
-struct Serving<'a> {
+struct Serving<'a, F> {
     alloc: Global,
     served: &'a Served,
+    // the file of the texts
+    texts: &'a mut F,
     phase: Phase,
     stream: ItemStream,
 }
@@ -78,7 +80,7 @@ fn flush<W: Write>(writer: &mut W) -> Result<(), ServeFault>
     }
 }
 
-impl Serving<'_> {
+impl<F: Read + Seek> Serving<'_, F> {
     // Takes an item.
     fn take_item<W: Write>(&mut self, item: &[Token], writer: &mut W) -> Result<(), ServeFault>
         ensures taken { OnOk result ((bytes : List ℕ) × Takes self.old.served.now self.old.phase item.now self.new.phase bytes × Appends (W.contents writer.old) (W.contents writer.new) bytes) }
@@ -86,7 +88,7 @@ impl Serving<'_> {
         ensures stream { self.new.stream ≡ self.old.stream }
     {
         let phase = mem::replace(&mut self.phase, Phase::Over);
-        self.phase = take(self.alloc, self.served, phase, item, writer)?;
+        self.phase = take(self.alloc, self.served, phase, item, self.texts, writer)?;
         Ok(())
     }
 
@@ -158,9 +160,10 @@ impl Serving<'_> {
 }
 
 // Serves a client to the end of its input, or to where it is refused.
-fn serve_items<R: Read, W: Write>(
+fn serve_items<R: Read, W: Write, F: Read + Seek>(
     alloc: Global,
     served: &Served,
+    texts: &mut F,
     reader: &mut R,
     writer: &mut W,
 ) -> Result<(), ServeFault>
@@ -169,6 +172,7 @@ fn serve_items<R: Read, W: Write>(
     let mut serving = Serving {
         alloc,
         served,
+        texts,
         phase: Phase::Greeted,
         stream: ItemStream::new(alloc, CLIENT_LIMITS),
     };
@@ -179,17 +183,19 @@ fn serve_items<R: Read, W: Write>(
 
 /// Serves one connection, to the end of its input. The writer is flushed before each read, and at the end.
 ///
-/// Malformed where the client's bytes are no items, BadCommand where an item is none that may come then; Read and Write where the connection fails. What was
-/// answered before is written all the same.
-pub fn serve<R: Read, W: Write>(
+/// Malformed where the client's bytes are no items, BadCommand where an item is none that may come then; Read and Write where the connection fails. Texts,
+/// NoText and OtherText where a text can't be read off the file in which the texts are that stand-ins stand for, or isn't the one that it was when the dump
+/// was loaded. What was answered before is written all the same.
+pub fn serve<R: Read, W: Write, F: Read + Seek>(
     alloc: Global,
     served: &Served,
+    texts: &mut F,
     reader: &mut R,
     writer: &mut W,
 ) -> Result<(), ServeFault>
     ensures { OnOk result (IfSome (R.remaining reader.old) (λ input. (output : List ℕ) × IsServed served.now input output × Appends (W.contents writer.old) (W.contents writer.new) output)) }
 {
-    let done = serve_items(alloc, served, reader, writer);
+    let done = serve_items(alloc, served, texts, reader, writer);
     let flushed = flush(writer);
     done?;
     flushed

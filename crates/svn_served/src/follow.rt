@@ -13,7 +13,8 @@ use svn_drive::Request;
 use svn_editor::Mode;
 use svn_repo::{NodeId, Repo};
 use svn_report::{Report, ReportEntry};
-use svn_types::{Name, RelPath, Rev};
+use svn_types::{Name, RelPath, Rev, Text};
+use svn_wire_calls::HeldTexts;
 
 /// What a drive is made from.
 #[derive(Clone, Copy)]
@@ -131,6 +132,17 @@ fn kept_or(is_kept: bool, path: RelPath, beneath: RelPath) -> RelPath
     if is_kept { path } else { beneath }
 }
 
+// What the repository holds of the text of a node, if there is one and it is a file.
+fn held_of(repo: &Repo, node: Option<NodeId>) -> Result<Option<Text>, AllocError> {
+    let Some(node) = node else {
+        return Ok(None);
+    };
+    match repo.shared_text(node) {
+        Some(text) => Ok(Some(text.clone()?)),
+        None => Ok(None),
+    }
+}
+
 // `&&` as a function, so that a caller's proof sees one term and no branches.
 fn both(first: bool, second: bool) -> bool
     ensures { result ≡ (first && second) }
@@ -239,6 +251,17 @@ impl<'a> Following<'a> {
             followed = self.child(&followed, name)?;
         }
         Ok(followed)
+    }
+
+    /// What the repository holds of the texts of the file at a path of the report: before the drive and after it.
+    pub(crate) fn held_at(&self, path: &RelPath) -> Result<HeldTexts, AllocError> {
+        let followed = self.followed(path.components())?;
+        let old = self.source(&followed.here);
+        let new = self.repo.lookup(self.request.target, &followed.target_path);
+        Ok(HeldTexts {
+            old: held_of(self.repo, old)?,
+            new: held_of(self.repo, new)?,
+        })
     }
 
     /// The path in the target of a path of the report.

@@ -9,8 +9,8 @@ use std::alloc::{AllocError, Global};
 use svn_drive::Request;
 use svn_replies::Served;
 use svn_report::Report;
-use svn_types::{Name, RelPath};
-use svn_wire_calls::{Entered, Teller};
+use svn_types::{Digest, Name, RelPath, Text};
+use svn_wire_calls::{Entered, HeldTexts, SendFault, Stretch, Teller, TextMap, TextSums};
 
 /// Says of the nodes of a drive when and by whom they were changed last.
 #[derive(Clone, Copy)]
@@ -59,6 +59,22 @@ fn reported_path(
     }
 }
 
+impl<'a> Notes<'a> {
+    // What the drive is made from.
+    fn following(&self, alloc: Global) -> Following<'a>
+        ensures repo { result.repo.now ≡ self.now.served.now.repo }
+        ensures report { result.report.now ≡ self.now.report.now }
+        ensures request { result.request.now ≡ self.now.request.now }
+    {
+        Following {
+            alloc,
+            repo: &self.served.repo,
+            report: self.report,
+            request: self.request,
+        }
+    }
+}
+
 impl Teller for Notes<'_> {
     ghost use Rattle.svn_drive.specs.Requests.{input_of};
     ghost use Rattle.svn_served.specs.Told.{Tells};
@@ -71,13 +87,37 @@ impl Teller for Notes<'_> {
             return Ok(None);
         }
         let path = reported_path(alloc, entry, path)?;
-        let following = Following {
-            alloc,
-            repo: &self.served.repo,
-            report: self.report,
-            request: self.request,
-        };
-        let path = following.target_path(&path)?;
+        let path = self.following(alloc).target_path(&path)?;
         self.served.entered(alloc, self.request.target, &path)
+    }
+
+    fn held_at(&self, alloc: Global, path: &RelPath) -> Result<HeldTexts, AllocError> {
+        let path = reported_path(alloc, self.entry.as_ref(), path)?;
+        self.following(alloc).held_at(&path)
+    }
+}
+
+// The texts of a drive are those of what is served.
+impl TextMap for Notes<'_> {
+    ghost use Rattle.svn_replies.specs.Texts.{IsText, IsSum};
+
+    ghost stands_for = { λ notes. IsText notes.served.now };
+
+    ghost sums = { λ notes. IsSum notes.served.now };
+
+    fn is_whole(&self) -> bool {
+        self.served.is_whole()
+    }
+
+    fn place(&self, alloc: Global, held: &Text) -> Result<Option<Stretch>, SendFault> {
+        self.served.place(alloc, held)
+    }
+
+    fn is_text(&self, alloc: Global, held: &Text, found: &TextSums) -> Result<bool, SendFault> {
+        self.served.is_text(alloc, held, found)
+    }
+
+    fn known_sum(&self, alloc: Global, held: &Text) -> Result<Option<Digest>, SendFault> {
+        self.served.known_sum(alloc, held)
     }
 }

@@ -11,7 +11,7 @@ use crate::fault::ServeFault;
 use crate::reporting::Reporting;
 use crate::wanted::Wanted;
 use std::alloc::Global;
-use std::io::Write;
+use std::io::{Read, Seek, Write};
 use svn_replies::{Refused, Served, Session, View, push_done, push_no_mechanism};
 use svn_report::Report;
 use svn_wire::{Token, command};
@@ -73,9 +73,10 @@ fn after_drive(session: Session, driven: Driven) -> Phase
 }
 
 // The drive that a report asks for, or why there is none.
-fn drive<W: Write>(
+fn drive<W: Write, F: Read + Seek>(
     view: View<'_>,
     reporting: Result<Reporting, Refused>,
+    texts: &mut F,
     writer: &mut W,
 ) -> Result<Driven, ServeFault>
     ensures { IfOk result (λ driven. (bytes : List ℕ) × IsReportAnswer view.entry.served.now (reported view.entry.served.now.repo (as_read reporting)) driven bytes × Appends (W.contents writer.old) (W.contents writer.new) bytes) }
@@ -85,7 +86,7 @@ fn drive<W: Write>(
     match reported(view, reporting) {
         Ok((wanted, report)) => {
             write_out(writer, &out)?;
-            write_drive(view.alloc, view.served, &wanted, &report, writer)
+            write_drive(view.alloc, view.served, &wanted, &report, texts, writer)
         }
         Err(refused) => {
             push_refused(&mut out, refused)?;
@@ -96,12 +97,13 @@ fn drive<W: Write>(
 }
 
 /// Takes a command of a report. What is written goes to the writer at once.
-pub(crate) fn take_report<W: Write>(
+pub(crate) fn take_report<W: Write, F: Read + Seek>(
     alloc: Global,
     served: &Served,
     session: Session,
     reporting: Result<Reporting, Refused>,
     item: &[Token],
+    texts: &mut F,
     writer: &mut W,
 ) -> Result<Phase, ServeFault>
     ensures { IfOk result (λ phase. (bytes : List ℕ) × Reports served.now session reporting item.now phase bytes × Appends (W.contents writer.old) (W.contents writer.new) bytes) }
@@ -115,7 +117,7 @@ pub(crate) fn take_report<W: Write>(
         session: &session,
     };
     if name == b"finish-report".as_slice() {
-        let driven = drive(view, reporting, writer)?;
+        let driven = drive(view, reporting, texts, writer)?;
         return Ok(after_drive(session, driven));
     }
     if name == b"abort-report".as_slice() {

@@ -4,3 +4,7 @@ pub mod Appends
 pub mod Writings
 -- the image of calls where one thing is said of each path
 pub mod Images
+-- a text that is sent piece by piece
+pub mod Sendings
+-- the chunks of a text are one delta
+pub mod Chunks

@@ -19,16 +19,20 @@ both_appended (Some x) None c xs ys h g = absurd h
 both_appended (Some x) (Some y) None xs ys h g = absurd g
 both_appended (Some x) (Some y) (Some z) xs ys h g = g ∙ ap (λ (l : List ℕ). l ++ ys) h ∙ append_assoc x xs ys
 
-module _ {E N X : Type 0} (writer : E → N) (contents : E → Option (List ℕ)) (teller : E → X) (tells : X → Path → Option Entered → Type 0) where
+module _ {E N X : Type 0} (writer : E → N) (contents : E → Option (List ℕ)) (teller : E → X) (tells : X → Path → Option Entered → Type 0)
+    (stands_for sums : X → List ℕ → List ℕ → Type 0) where
+  abbrev WrittenBy : X → List Call → List ℕ → Type 0
+  WrittenBy x calls bytes = AreWritten (tells x) (stands_for x) (sums x) calls bytes
+
   -- what may be said is the same after each call
   written_by : (calls : List Call) (bytes : List ℕ) (before middle : E) → teller middle ≡ teller before
-      → AreWritten (tells (teller middle)) calls bytes → AreWritten (tells (teller before)) calls bytes
+      → WrittenBy (teller middle) calls bytes → WrittenBy (teller before) calls bytes
   written_by calls bytes before middle same h = rw (← same) h
 
   nothing_written : (before after : E) → before ≡ after → Appends (contents before) (contents after) []
   nothing_written before after same = rw (← same) (none_appended (contents before))
 
-  pub all_written : (before : E) → CallsAreWritten writer contents teller tells before
+  pub all_written : (before : E) → CallsAreWritten writer contents teller tells stands_for sums before
   all_written before [] after h = (sym (ap writer h), ([], refl, nothing_written before after h))
   all_written before (c ∷ calls) after h =
       let rest = all_written h.0 calls after h.2 in

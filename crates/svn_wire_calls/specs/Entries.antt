@@ -1,6 +1,6 @@
 -- The image of a drive with the entry properties that a client keeps of each node: in which revision it was last changed, when and by whom.
 --     entry_props change token entered      what is said of a node: by change-dir-prop or change-file-prop, of that token
---     AreWritten tells calls bytes      the commands of calls, and after each that opens or adds a node something that may be said of it
+--     AreWritten tells stands_for sums calls bytes      calls as they are shown, and after each that opens or adds a node something that may be said of it
 --     wire_with told calls      the same where that is one thing
 use Rattle.std.specs.Prelude.{◌≡◌, ℕ, List, [], ◌∷◌, ◌++◌, codes, Option, Some, None}
 use Rattle.std.specs.List.{flat_map}
@@ -10,7 +10,9 @@ use Rattle.svn_editor.specs.declared.call.Call.{Call}
 use Rattle.svn_editor.specs.declared.call.Call.TheVariants.{OpenRoot, AddDirectory, OpenDirectory, AddFile, OpenFile}
 use Rattle.svn_wire.specs.Writing.{text_bytes}
 use Rattle.svn_wire_calls.specs.declared.entered.Entered.{Entered}
-use Rattle.svn_wire_calls.specs.Calls.{baton, optional, command, call_bytes}
+use Rattle.svn_wire_calls.specs.Commands.{command, baton}
+use Rattle.svn_wire_calls.specs.Calls.{optional, call_bytes}
+use Rattle.svn_wire_calls.specs.Shown.{IsShown}
 
 -- a property that is known
 abbrev pub entry_prop : List ℕ → ℕ → List ℕ → Option (List ℕ) → List ℕ
@@ -43,14 +45,19 @@ module _ (tells : Path → Option Entered → Type 0) where
   IsSaidAfter (OpenFile path parent base token) said = IsSaid (codes "change-file-prop") token path said
   IsSaidAfter _ said = said ≡ []
 
-  abbrev pub IsWrittenCall : Call → List ℕ → Type 0
-  IsWrittenCall call bytes = (said : List ℕ) × IsSaidAfter call said × (bytes ≡ call_bytes call ++ said)
+  -- a call as it is shown, and what is said after it
+  abbrev pub IsWrittenAs : Call → List ℕ → Type 0
+  IsWrittenAs shown bytes = (said : List ℕ) × IsSaidAfter shown said × (bytes ≡ call_bytes shown ++ said)
 
-  abbrev pub AreWritten : List Call → List ℕ → Type 0
-  AreWritten [] bytes = bytes ≡ []
-  AreWritten (c ∷ calls) bytes = (first : List ℕ) × (rest : List ℕ) × IsWrittenCall c first × AreWritten calls rest × (bytes ≡ first ++ rest)
+  module _ (stands_for sums : List ℕ → List ℕ → Type 0) where
+    abbrev pub IsWrittenCall : Call → List ℕ → Type 0
+    IsWrittenCall call bytes = (shown : Call) × IsShown stands_for sums call shown × IsWrittenAs shown bytes
 
--- ---- the image, where one thing is said of each path
+    abbrev pub AreWritten : List Call → List ℕ → Type 0
+    AreWritten [] bytes = bytes ≡ []
+    AreWritten (c ∷ calls) bytes = (first : List ℕ) × (rest : List ℕ) × IsWrittenCall c first × AreWritten calls rest × (bytes ≡ first ++ rest)
+
+-- ---- the image, where one thing is said of each path, and texts stand for themselves
 
 abbrev pub entries_after : (Path → Option Entered) → Call → List ℕ
 entries_after told (OpenRoot base token) = entry_props (codes "change-dir-prop") token (told [])

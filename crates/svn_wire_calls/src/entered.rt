@@ -2,7 +2,8 @@
 ghost use Rattle.std.specs.Prelude.{◌≡◌, ◌++◌, Some, OnOk, IfOk};
 ghost use Rattle.std.specs.Fmt.{decimal};
 ghost use Rattle.svn_wire.specs.Writing.{text_bytes};
-ghost use Rattle.svn_wire_calls.specs.Calls.{baton, optional, command};
+ghost use Rattle.svn_wire_calls.specs.Commands.{baton, command};
+ghost use Rattle.svn_wire_calls.specs.Calls.{optional};
 ghost use Rattle.svn_wire_calls.specs.Entries.{entry_prop, entered_props};
 
 use crate::fields::{begin, end, push_baton, push_some};
@@ -23,6 +24,15 @@ pub struct Entered {
     pub author: Option<Text>,
 }
 
+/// The texts that are held for a file, before an edit and after it.
+#[derive(Debug, Drop)]
+pub struct HeldTexts {
+    /// Before, if there is one.
+    pub old: Option<Text>,
+    /// After, if there is one.
+    pub new: Option<Text>,
+}
+
 /// Says of the nodes that an edit opens or adds what a client keeps beside them.
 pub trait Teller {
     ghost use Rattle.std.specs.Prelude.{Option};
@@ -35,9 +45,12 @@ pub trait Teller {
     /// What is said of the node at a path of the edit; None where nothing is.
     fn tell(&self, alloc: Global, path: &RelPath) -> Result<Option<Entered>, AllocError>
         ensures { IfOk result (tells self.now path.now) };
+
+    /// The texts that are held for the file at a path of the edit, where texts stand for others. The checksums of calls are compared with theirs.
+    fn held_at(&self, alloc: Global, path: &RelPath) -> Result<HeldTexts, AllocError>;
 }
 
-/// Says nothing of any node.
+/// Says nothing of any node; and each text stands for itself.
 #[derive(Clone, Copy, Debug)]
 pub struct NothingTold;
 
@@ -49,10 +62,17 @@ impl Teller for NothingTold {
     fn tell(&self, _alloc: Global, _path: &RelPath) -> Result<Option<Entered>, AllocError> {
         Ok(None)
     }
+
+    fn held_at(&self, _alloc: Global, _path: &RelPath) -> Result<HeldTexts, AllocError> {
+        Ok(HeldTexts {
+            old: None,
+            new: None,
+        })
+    }
 }
 
 // One property of a node.
-#[tactic(auto, unfolding(crate::specs::Calls::command))]
+#[tactic(auto, unfolding(crate::specs::Commands::command))]
 fn push_prop(
     out: &mut Vec<u8>,
     change: &[u8],

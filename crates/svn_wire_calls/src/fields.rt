@@ -3,7 +3,8 @@ ghost use Rattle.std.specs.Prelude.{◌≡◌, ◌++◌, ◌∷◌, Some, codes,
 ghost use Rattle.std.specs.List.{flat_map};
 ghost use Rattle.svn_types.specs.PathTexts.{path_text};
 ghost use Rattle.svn_wire.specs.Writing.{word_bytes};
-ghost use Rattle.svn_wire_calls.specs.Calls.{baton, path_bytes, revision, optional, checksum};
+ghost use Rattle.svn_wire_calls.specs.Commands.{baton};
+ghost use Rattle.svn_wire_calls.specs.Calls.{path_bytes, revision, optional, checksum};
 
 use itoa::Buffer;
 use std::alloc::AllocError;

@@ -49,12 +49,18 @@ fn serve_client<T: Files + Input + Print + AllocGlobal>(
     rt: &T,
     request: &Request<'_>,
 ) -> Result<(), Fault> {
-    let served = load(rt, request)?;
+    let (served, mut texts) = load(rt, request)?;
     let mut writer = match BufWriter::new(rt.alloc(), io::writer(rt)) {
         Ok(writer) => writer,
         Err(error) => return Err(Fault::Served(ServeFault::Write(error))),
     };
-    match serve(rt.alloc(), &served, &mut rt.reader(), &mut writer) {
+    match serve(
+        rt.alloc(),
+        &served,
+        &mut texts,
+        &mut rt.reader(),
+        &mut writer,
+    ) {
         Ok(()) => Ok(()),
         Err(fault) => Err(Fault::Served(fault)),
     }

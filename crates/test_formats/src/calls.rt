@@ -1,10 +1,14 @@
 //! The commands that calls are: those of a recorded `svnserve` 1.14.2, with numbers for its tokens.
+use crate::stand_ins::MemoryFile;
 use std::alloc::{AllocError, Global};
 use std::str;
 use std::test::Fail;
 use svn_editor::{Call, Editor, Token};
 use svn_types::{Digest, PropName, RelPath, Rev, Text};
-use svn_wire_calls::{Entered, Teller, WireEditor, push_call};
+use svn_wire_calls::{
+    Entered, HeldTexts, OpenedTexts, SendFault, Stretch, Teller, TextMap, TextSums, WireEditor,
+    push_call,
+};
 
 /// A call of a row, at the path of the row.
 #[derive(Clone, Copy)]
@@ -184,6 +188,36 @@ impl Teller for Sixth {
             author: None,
         }))
     }
+
+    fn held_at(&self, _alloc: Global, _path: &RelPath) -> Result<HeldTexts, AllocError> {
+        Ok(HeldTexts {
+            old: None,
+            new: None,
+        })
+    }
+}
+
+// Each text stands for itself.
+impl TextMap for Sixth {
+    ghost stands_for = { λ _ _ _. Unit {0} };
+
+    ghost sums = { λ _ _ _. Unit {0} };
+
+    fn is_whole(&self) -> bool {
+        true
+    }
+
+    fn place(&self, _alloc: Global, _held: &Text) -> Result<Option<Stretch>, SendFault> {
+        Ok(None)
+    }
+
+    fn is_text(&self, _alloc: Global, _held: &Text, _found: &TextSums) -> Result<bool, SendFault> {
+        Ok(false)
+    }
+
+    fn known_sum(&self, _alloc: Global, held: &Text) -> Result<Option<Digest>, SendFault> {
+        Ok(Some(held.checksum()))
+    }
 }
 
 // Calls, and what is written of them with what is said of nodes.
@@ -201,7 +235,9 @@ static WRITTEN: &str = "( target-rev ( 10 ) ) ( add-dir ( 1:a 1:1 1:2 ( ) ) ) \
 
 fn written(alloc: Global) -> Result<Vec<u8>, Fail> {
     let mut out = Vec::new(alloc);
-    let mut editor = WireEditor::new(alloc, &mut out, Sixth);
+    let mut texts = MemoryFile::new("");
+    let mut opened = OpenedTexts::new(alloc);
+    let mut editor = WireEditor::new(alloc, &mut out, &mut texts, &mut opened, Sixth);
     for made in &DRIVE {
         editor.call(call_of(alloc, *made, "a")?)?;
     }

@@ -93,8 +93,8 @@ impl Sent {
     }
 }
 
-// The opening, and what comes after it.
-fn opened(alloc: Global, sent: &[u8]) -> Result<Vec<u8>> {
+/// The opening, and what comes after it.
+pub(crate) fn opened(alloc: Global, sent: &[u8]) -> Result<Vec<u8>> {
     let mut bytes = Vec::from_slice(alloc, OPENING.as_bytes())?;
     bytes.extend_from_slice(sent)?;
     Ok(bytes)

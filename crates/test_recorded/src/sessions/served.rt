@@ -3,13 +3,13 @@
 use anyhow::{Result, bail};
 use std::alloc::Global;
 use std::io;
-use std::io::Read;
+use std::io::{ErrorKind, Read, Seek, SeekFrom, Write};
 use std::mem::replace;
 use svn_drive::DriveOptions;
 use svn_dump::{Action, Limits, NodeRecord, PropSection, Reader, Record, Texts};
 use svn_history::Loader;
-pub(crate) use svn_replies::Served;
 use svn_replies::{Changes, PathChange, PathChanges, Revisions};
+pub(crate) use svn_replies::{Holds, Served};
 use svn_repo::Repo;
 use svn_served::{ServeFault, serve};
 use svn_types::{PropName, Props, Text};
@@ -116,9 +116,13 @@ fn changes(alloc: Global, dump: &[u8]) -> Result<Changes> {
     Ok(Changes::new(revs))
 }
 
-/// The history of a dump, whose repository is `repo` at its host.
-pub(crate) fn load(alloc: Global, dump: &[u8]) -> Result<Served> {
-    let reader = Reader::new(alloc, dump, Limits::default(), Texts::Whole)?.with_index();
+/// The history of a dump, whose repository is `repo` at its host, with its texts in memory or as stand-ins.
+pub(crate) fn load(alloc: Global, dump: &[u8], holds: Holds) -> Result<Served> {
+    let texts = match holds {
+        Holds::Texts => Texts::Whole,
+        Holds::StandIns => Texts::Sha1,
+    };
+    let reader = Reader::new(alloc, dump, Limits::default(), texts)?.with_index();
     let mut loader = Loader::new(alloc, reader, Repo::new(alloc)?);
     loader.load_all()?;
     let uuid = match loader.uuid() {
@@ -131,6 +135,7 @@ pub(crate) fn load(alloc: Global, dump: &[u8]) -> Result<Served> {
     Ok(Served {
         repo,
         index,
+        holds,
         revisions: revisions(alloc)?,
         changes: changes(alloc, dump)?,
         uuid,
@@ -159,9 +164,85 @@ impl Read for Pieces<'_> {
     }
 }
 
-/// What is written to a client that sends these bytes.
-pub(crate) fn answers_to(alloc: Global, served: &Served, client: &[u8]) -> Result<Written> {
+/// A dump that is in memory, as the file of its texts.
+#[derive(Drop)]
+struct DumpFile<'a> {
+    bytes: &'a [u8],
+    at: usize,
+}
+
+impl Read for DumpFile<'_> {
+    fn read(&mut self, buf: &mut [u8]) -> io::Result<usize> {
+        let mut rest = self.bytes.get(self.at..).unwrap_or(&[]);
+        let count = rest.read(buf)?;
+        self.at = self.at.saturating_add(count);
+        Ok(count)
+    }
+}
+
+impl Seek for DumpFile<'_> {
+    fn seek(&mut self, to: SeekFrom) -> io::Result<u64> {
+        match to {
+            SeekFrom::Start(at) => {
+                self.at = at as usize;
+                Ok(at)
+            }
+            _ => Err(io::Error::from(ErrorKind::Unsupported)),
+        }
+    }
+}
+
+/// What is written to a client that sends these bytes, of a dump that is served.
+pub(crate) fn answers_to(
+    alloc: Global,
+    served: &Served,
+    dump: &[u8],
+    client: &[u8],
+) -> Result<Written> {
     let mut bytes = Vec::new(alloc);
-    let fault = serve(alloc, served, &mut Pieces { bytes: client }, &mut bytes).err();
+    let mut texts = DumpFile { bytes: dump, at: 0 };
+    let mut reader = Pieces { bytes: client };
+    let fault = serve(alloc, served, &mut texts, &mut reader, &mut bytes).err();
+    Ok(Written { bytes, fault })
+}
+
+/// A client that takes so many bytes, and no more.
+#[derive(Drop)]
+struct Room {
+    bytes: Vec<u8>,
+    room: usize,
+}
+
+impl Write for Room {
+    fn write(&mut self, buf: &[u8]) -> io::Result<usize> {
+        let count = buf.len().min(self.room.saturating_sub(self.bytes.len()));
+        if count == 0 && !buf.is_empty() {
+            return Err(io::Error::from(ErrorKind::BrokenPipe));
+        }
+        match self.bytes.extend_from_slice(&buf[..count]) {
+            Ok(()) => Ok(count),
+            Err(_) => Err(io::Error::from(ErrorKind::OutOfMemory)),
+        }
+    }
+
+    fn flush(&mut self) -> io::Result<()> {
+        Ok(())
+    }
+}
+
+/// What is written to a client that sends these bytes, and takes so many.
+pub(crate) fn answers_within(
+    alloc: Global,
+    served: &Served,
+    dump: &[u8],
+    client: &[u8],
+    room: usize,
+) -> Result<Written> {
+    let bytes = Vec::new(alloc);
+    let mut writer = Room { bytes, room };
+    let mut texts = DumpFile { bytes: dump, at: 0 };
+    let mut reader = Pieces { bytes: client };
+    let fault = serve(alloc, served, &mut texts, &mut reader, &mut writer).err();
+    let Room { bytes, .. } = writer;
     Ok(Written { bytes, fault })
 }
