@@ -16,7 +16,7 @@ memory, the driver must learn that in time, unless it has made all its calls; bo
 With --svnup it is the program crates/svnup/out/svnup, and what is swept are its words, the reading of a short script and its printing: it
 prints what it does with ample memory, or that it is out of memory, with status 1, or the command that needed memory is refused.
 
-With --svnread it is the program crates/svnread/out/svnread, and what is swept are the recorded sessions of test_served: what it writes is what it does
+With --svnread it is the program crates/svnread/out/svnread, and what is swept are the recorded sessions of test_recorded: what it writes is what it does
 with ample memory, or a front of that, and it says that it is out of memory, with status 1.
 """
 import os, re, subprocess, sys, tempfile
@@ -114,8 +114,8 @@ def sweep_words(program, library, words):
     return sweep_given(" ".join(["svnup", *words]), [program, library, words, b"commit\n"], is_wanted)
 
 
-# Sessions that svnread serves: those of test_served, out of its dump.
-SERVED = f"{HERE}/../crates/test_served/data"
+# Sessions that svnread serves: those of test_recorded, out of its dump.
+SERVED = f"{HERE}/../crates/test_recorded/data/sessions"
 SERVES = ["--dump", f"{SERVED}/history.dump", "--root", "repo"]
 
 

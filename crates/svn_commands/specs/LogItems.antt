@@ -1,6 +1,6 @@
 -- What is written of a revision in a log.
 --     item_bytes s wanted r      the paths that revision r changed, its number, its author, date and message, and its other properties, as they are wanted
-use Rattle.std.specs.Prelude.{ℕ, ◌-◌, Bool, true, false, ◌&&◌, ◌||◌, not, List, [], ◌∷◌, ◌++◌, length, bytes_eq, codes, slice_get, Option, Some, None, option_and_then, if◌then◌else◌}
+use Rattle.std.specs.Prelude.{ℕ, ◌-◌, Bool, true, false, ◌&&◌, ◌||◌, not, List, [], ◌++◌, length, bytes_eq, codes, slice_get, Option, Some, None, option_and_then, if◌then◌else◌}
 use Rattle.std.specs.List.{filter, flat_map, list_any}
 use Rattle.std.specs.Option.{option_or}
 use Rattle.svn_types.specs.Names.{Path}

@@ -1,4 +1,4 @@
-use Rattle.std.proofs.Common.{◌≡◌, ◌≢◌, ap, length, true, false, rules, sym, ◌∙◌}
+use Rattle.std.proofs.Common.{◌≡◌, ◌≢◌, ap, length, true, rules, sym, ◌∙◌}
 use Rattle.svn_commands.specs.Log.{is_full, is_logged}
 use Rattle.svn_commands.proofs.Logged.{one_nearer, enough_found, more_found}
 use Rattle.svn_commands.proofs.log.logged.Goals as goal

@@ -20,7 +20,7 @@ returns-in-Ok-Replied g c =
 pub returns-in-Ok-Wants : goal.returns-in-Ok-Wants
 returns-in-Ok-Wants g c =
     let before = g.W.Write.contents c.args.writer.now in
-    let after = g.W.Write.contents c.write_out-in-Ok-Wants.new.writer in
+    let after = g.W.Write.contents c.write_out.new.writer in
     let written = c.answer_command.new.out.items in (
       written,
       answers_wants c.args.served.now c.args.session (command_of c.args.item.now) c.in-Some.name.now c.in-Some.fields.now c.in-Some.ensures
