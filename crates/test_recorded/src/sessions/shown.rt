@@ -19,13 +19,13 @@ const LONGEST: usize = 1000;
 
 /// A text, and a run of a byte after it.
 #[derive(Drop)]
-struct Shown {
+struct Line {
     text: String,
     last: u8,
     count: usize,
 }
 
-impl Shown {
+impl Line {
     // The run as it is, or with its length.
     fn push_run(&mut self) -> Result<(), AllocError> {
         if self.count > LONGEST {
@@ -60,15 +60,15 @@ impl Shown {
 
 /// A line of bytes, in which those that aren't printed are escaped, and long runs of one byte are counted.
 pub(crate) fn shown(alloc: Global, bytes: &[u8]) -> Result<String, AllocError> {
-    let mut shown = Shown {
+    let mut line = Line {
         text: String::new(alloc),
         last: 0,
         count: 0,
     };
     for byte in bytes {
-        shown.push(*byte)?;
+        line.push(*byte)?;
     }
-    shown.end_run()?;
-    let Shown { text, .. } = shown;
+    line.end_run()?;
+    let Line { text, .. } = line;
     Ok(text)
 }
