@@ -17,7 +17,7 @@ With --svnup it is the program crates/svnup/out/svnup, and what is swept are its
 prints what it does with ample memory, or that it is out of memory, with status 1, or the command that needed memory is refused.
 
 With --svnread it is the program crates/svnread/out/svnread, and what is swept are the recorded sessions of test_recorded: what it writes is what it does
-with ample memory, or a front of that, and it says that it is out of memory, with status 1.
+with ample memory, or a front of that, and it says that it is out of memory, with status 1, or 2 where nothing is served.
 """
 import os, re, subprocess, sys, tempfile
 from collections import Counter
@@ -120,9 +120,10 @@ SERVES = ["--dump", f"{SERVED}/history.dump", "--root", "repo"]
 
 
 def is_served(ran, ample):
-    """Whether svnread writes what it does with ample memory, or a front of that, and says out of memory."""
-    front, _, why = ran[1].partition("svnread: ")
-    return ran == ample or ran[0] == 1 and ample[1].startswith(front) and why.endswith("out of memory\n")
+    """Whether svnread writes what it does with ample memory, or a front of that, and says out of memory: with status 1, or 2 where nothing is served."""
+    # (a fault in the words is said by clap)
+    said = re.fullmatch(r"(.*?)(?:svnread|error): .*out of memory\n", ran[1], re.S)
+    return ran == ample or bool(said) and ran[0] in (1, 1 if said[1] else 2) and ample[1].startswith(said[1])
 
 
 def sweep_session(program, library, name):

@@ -181,6 +181,38 @@ echo "    $cut of them stopped"
 [ $cut = "$STOPS" ] || wrong=$((wrong + 1))
 tunnel ours.conf "$SVNREAD --dump $room/dump --root repo"
 
+echo "== a dump of deltas, whose texts are in memory"
+svnadmin dump -q --deltas repo >deltas
+tunnel ours.conf "$SVNREAD --dump $room/deltas --root repo"
+fresh
+both 'of deltas' checkout -r 4 "$url" wc
+both 'of deltas, updated' update wc
+both 'of deltas, cat' cat "$url/trunk/a.c@5"
+both 'of deltas, list' list -v -R "$url"
+
+echo "== texts of any length, which stay in the dump"
+svnadmin create long
+svn -q checkout "file://$room/long" long_copy
+for len in 0 1 102399 102400 102401 1048577 5000000; do
+    seq 800000 | head -c "$len" >"long_copy/$len"
+done
+svn -q add long_copy/* && svn -q commit -m 'long texts' long_copy
+for len in 0 102400 5000000; do
+    echo more >>"long_copy/$len"
+done
+svn -q commit -m 'longer texts' long_copy
+svnadmin dump -q long >long.dump
+tunnel ours.conf "$SVNREAD --dump $room/long.dump --root long"
+fresh
+both 'long texts' checkout -r 1 svn+it://host/long wc
+both 'long texts, updated' update wc
+both 'long texts, back' update -r 1 wc
+for len in 0 102401 5000000; do
+    both "cat of $len bytes" cat "svn+it://host/long/$len"
+done
+both 'long texts, list' list -v svn+it://host/long
+tunnel ours.conf "$SVNREAD --dump $room/dump --root repo"
+
 echo "== $RANDOM_SERVED commands at random, on histories at random"
 python3 -c 'import svn.core' 2>/dev/null || { echo "    passed over: this needs Debian's package python3-subversion"; RANDOM_SERVED=0; }
 RANDOM=3
