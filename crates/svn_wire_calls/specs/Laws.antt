@@ -17,7 +17,7 @@ use Rattle.svn_wire_calls.specs.Pieces.{chunk, sent_bytes}
 
 module _ {E N X : Type 0} (writer : E → N) (contents : E → Option (List ℕ)) (teller : E → X) (tells : X → Path → Option Entered → Type 0)
     (stands_for sums : X → List ℕ → List ℕ → Type 0) where
-  -- the writer stays the same; of a refused call nothing is written, but where the writer fails
+  -- the writer stays the same; of a call that is refused with Memory nothing is written
   abbrev pub Writes : E → Call → Result (Unit {0}) EditFault → E → Type 0
   Writes before call answer after =
       (writer after ≡ writer before) × (teller after ≡ teller before)

@@ -18,9 +18,9 @@ use std::io::{Read, Seek, Write};
 use svn_editor::{Call, EditFault, Editor, Token};
 use svn_types::{Digest, RelPath, Text};
 
-/// An editor that writes each call when it is made, and after one that opens or adds a node what is said of that. The text that a call's text stands for is
-/// read off a file, piece by piece. It refuses a call only when out of memory, and has written nothing of it then; or because the writer or the file of the
-/// texts has failed, and each further call too: what was written is a front of the calls then.
+/// An editor that writes each call when it is made, and after one that opens or adds a node what is said of that. A text is read off a file, piece by piece.
+/// It refuses a call with Memory, of which nothing is written then; or with Stopped, and each further call, where the writer or the file of the texts fails, a
+/// text isn't known or has become another, or memory runs out within a text ([`take_failure`](Self::take_failure)): what was written is a front of the calls.
 #[derive(Drop)]
 pub struct WireEditor<'a, W, F, T> {
     alloc: Global,
@@ -56,7 +56,7 @@ impl<'a, W: Write, F: Read + Seek, T: Teller + TextMap> WireEditor<'a, W, F, T> 
         }
     }
 
-    /// Why a call failed, if one has. It is told once; then the editor writes again.
+    /// Why a call failed, if one has. It is returned once; then the editor writes again.
     pub fn take_failure(&mut self) -> Option<SendFault>
         ensures failed { result ≡ self.old.failed }
         ensures written { self.new.writer.now ≡ self.old.writer.now }
